@@ -9,15 +9,15 @@ ghost use Rattle.candidate_wires.specs.Inner.Parts.{AddsChoices, IsKnown, MarksD
 
 use crate::candidate::Candidate;
 use crate::known::Known;
-use crate::stamps::Stamps;
+use crate::node_set::NodeSet;
 use rm_base::{NoMemory, NodeId};
 
 // The candidate of the gate and that node, where there is one.
 fn choice_at(
     gate: NodeId,
     control: bool,
-    reached: &Stamps,
-    driving: &Stamps,
+    reached: &NodeSet,
+    driving: &NodeSet,
     source: Known,
 ) -> Option<Candidate>
     ensures { (net : Net) (held : Held) → IsJunction net gate.0 control → MarksReached net gate.0 reached.now → MarksDrivers net gate.0 driving.now → IsKnown net held source → IsCandidateOf net held gate.0 source.node.0 result }
@@ -53,8 +53,8 @@ fn choice_at(
 pub(crate) fn add_choices(
     gate: NodeId,
     control: bool,
-    reached: &Stamps,
-    driving: &Stamps,
+    reached: &NodeSet,
+    driving: &NodeSet,
     sources: &[Known],
     found: &mut Vec<Candidate>,
 ) -> Result<(), NoMemory>

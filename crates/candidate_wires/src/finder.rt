@@ -9,10 +9,10 @@ ghost use Rattle.candidate_wires.specs.Inner.Parts.{AreFoundAmong};
 use crate::candidate::Candidate;
 use crate::known::{Known, known_among, known_nodes};
 use crate::listing::along_chain;
+use crate::node_set::NodeSet;
 use crate::reaching::mark_reached;
-use crate::stamps::Stamps;
 use gate_graph::Question;
-use refutation::agenda::Agenda;
+use refutation::worklist::Worklist;
 use refutation::{Fact, FactSet};
 use rm_base::{NoMemory, NodeId};
 use std::alloc::Global;
@@ -21,9 +21,9 @@ use std::marker::Model;
 /// Finds candidates. Its marks are made once, for the node numbers below a bound, and serve one fault after another.
 #[derive(Drop)]
 pub struct Finder {
-    reached: Stamps,
-    driving: Stamps,
-    agenda: Agenda,
+    reached: NodeSet,
+    driving: NodeSet,
+    worklist: Worklist,
 }
 
 impl Model for Finder {
@@ -33,7 +33,7 @@ impl Model for Finder {
 
     ghost view = { λ f. length f.reached };
 
-    ghost invariant = { λ f. (length f.driving ≡ length f.reached) × (f.agenda ≡ replicate (length f.reached) false) };
+    ghost invariant = { λ f. (length f.driving ≡ length f.reached) × (f.worklist ≡ replicate (length f.reached) false) };
 }
 
 impl Finder {
@@ -41,13 +41,13 @@ impl Finder {
     pub fn new(alloc: Global, numbers: u32) -> Result<Finder, NoMemory>
         ensures { IfOk result (λ f. f ≡ numbers) }
     {
-        let reached = Stamps::new(alloc, numbers)?;
-        let driving = Stamps::new(alloc, numbers)?;
-        let agenda = Agenda::new(alloc, numbers)?;
+        let reached = NodeSet::new(alloc, numbers)?;
+        let driving = NodeSet::new(alloc, numbers)?;
+        let worklist = Worklist::new(alloc, numbers)?;
         Ok(Finder {
             reached,
             driving,
-            agenda,
+            worklist,
         })
     }
 
@@ -66,7 +66,7 @@ impl Finder {
             question.graph,
             question.fault.gate,
             &mut self.reached,
-            &mut self.agenda,
+            &mut self.worklist,
         );
         along_chain(
             alloc,

@@ -9,8 +9,8 @@ mod finder;
 mod known;
 pub mod laws;
 mod listing;
+mod node_set;
 mod reaching;
-mod stamps;
 mod targeting;
 
 pub use adding::{added_pin, least_free};

@@ -12,7 +12,7 @@ use crate::choosing::add_choices;
 use crate::drivers::mark_drivers;
 use crate::finder::Finder;
 use crate::known::Known;
-use crate::stamps::Stamps;
+use crate::node_set::NodeSet;
 use crate::targeting::control_of;
 use gate_graph::{Graph, Question};
 use refutation::FactSet;
@@ -24,8 +24,8 @@ use std::alloc::Global;
 fn add_at(
     graph: &Graph,
     at: NodeId,
-    reached: &Stamps,
-    driving: &mut Stamps,
+    reached: &NodeSet,
+    driving: &mut NodeSet,
     sources: &[Known],
     found: &mut Vec<Candidate>,
 ) -> Result<(), NoMemory>
@@ -46,8 +46,8 @@ fn add_at(
 pub(crate) fn along_chain(
     alloc: Global,
     question: &Question<'_>,
-    reached: &mut Stamps,
-    driving: &mut Stamps,
+    reached: &mut NodeSet,
+    driving: &mut NodeSet,
     sources: &[Known],
 ) -> Result<Vec<Candidate>, NoMemory>
     requires gate { IsLive (net_of question.now.graph.now) question.now.fault.gate.0 }

@@ -4,44 +4,49 @@ ghost use Rattle.gate_graph.specs.Circuit.{net_of};
 ghost use Rattle.gate_net.specs.Net.{IsLive};
 ghost use Rattle.refutation.specs.Reaching.{MarksReached, MarksReaders};
 
-use crate::stamps::Stamps;
+use crate::node_set::NodeSet;
 use gate_graph::Graph;
-use refutation::agenda::Agenda;
+use refutation::worklist::Worklist;
 use rm_base::NodeId;
 
 // Marks the readers of a node, and lists those that weren't marked.
-fn mark_readers(graph: &Graph, node: NodeId, reached: &mut Stamps, agenda: &mut Agenda)
+fn mark_readers(graph: &Graph, node: NodeId, reached: &mut NodeSet, worklist: &mut Worklist)
     requires node { IsLive (net_of graph.now) node.0 }
     requires marks { length (net_of graph.now).nodes ≤ length reached.old }
-    requires agenda { length (net_of graph.now).nodes ≤ length agenda.old }
-    ensures marked { MarksReaders (net_of graph.now) node.0 reached.old reached.new agenda.old agenda.new }
+    requires worklist { length (net_of graph.now).nodes ≤ length worklist.old }
+    ensures marked { MarksReaders (net_of graph.now) node.0 reached.old reached.new worklist.old worklist.new }
     ensures size { length reached.new ≡ length reached.old }
-    ensures agenda { length agenda.new ≡ length agenda.old }
+    ensures worklist { length worklist.new ≡ length worklist.old }
 {
     graph.well_formed();
     graph.readers_listed();
     for reader in graph.readers_of(node) {
         if !reached.has(reader) {
             reached.set(reader);
-            agenda.add(reader);
+            worklist.add(reader);
         }
     }
 }
 
-// Marks what is reached from the gate, over an agenda with nothing on, in the time of the pins that are reached.
-pub(crate) fn mark_reached(graph: &Graph, gate: NodeId, reached: &mut Stamps, agenda: &mut Agenda)
+// Marks what is reached from the gate, over a worklist with nothing on, in the time of the pins that are reached.
+pub(crate) fn mark_reached(
+    graph: &Graph,
+    gate: NodeId,
+    reached: &mut NodeSet,
+    worklist: &mut Worklist,
+)
     requires gate { IsLive (net_of graph.now) gate.0 }
     requires marks { length (net_of graph.now).nodes ≤ length reached.old }
-    requires agenda { length (net_of graph.now).nodes ≤ length agenda.old }
-    requires none { agenda.old ≡ replicate (length agenda.old) false }
+    requires worklist { length (net_of graph.now).nodes ≤ length worklist.old }
+    requires none { worklist.old ≡ replicate (length worklist.old) false }
     ensures marked { MarksReached (net_of graph.now) gate.0 reached.new }
     ensures size { length reached.new ≡ length reached.old }
-    ensures agenda { agenda.new ≡ agenda.old }
+    ensures worklist { worklist.new ≡ worklist.old }
 {
     reached.clear();
     graph.well_formed();
-    mark_readers(graph, gate, reached, agenda);
-    while let Some(node) = agenda.take() {
-        mark_readers(graph, node, reached, agenda);
+    mark_readers(graph, gate, reached, worklist);
+    while let Some(node) = worklist.take() {
+        mark_readers(graph, node, reached, worklist);
     }
 }

@@ -7,7 +7,7 @@ use Rattle.gate_net.specs.Edits.{constant_node}
 use Rattle.gate_net.specs.Net.{IsGate, IsGateKind, IsWellFormed, Net, Node, kind_in, node_at}
 use Rattle.gate_net.specs.declared.Kind.{Kind}
 use Rattle.gate_net.specs.declared.Kind.TheVariants.{One, Source, Zero}
-use Rattle.graph_to_model.specs.Making.{gate_of_step}
+use Rattle.wire_edit.specs.Steps.{gate_of_step}
 use Rattle.journal_text.specs.Accepted.{IsAcceptedStep, IsJustified, MayGrow}
 use Rattle.journal_text.specs.Joining.{RunsJoin}
 use Rattle.journal_text.specs.Runs.{counted, made_by, steps_of}

@@ -4,7 +4,7 @@ use Rattle.std.specs.Prelude.{if◌then◌else◌, nat_lt, option_and_then, slic
 use Rattle.std.proofs.lemmas.Bool.{cases_lt, ltb-true}
 use Rattle.std.proofs.lemmas.Option.{slice_get_within}
 use Rattle.gate_net.specs.Net.{Net, drivers_of}
-use Rattle.graph_to_model.specs.Making.{gate_of_step}
+use Rattle.wire_edit.specs.Steps.{gate_of_step}
 use Rattle.rm_base.proofs.Public.{and_first, and_second}
 use Rattle.wire_edit.specs.Laws.{IsTidying, TidyMeans}
 use Rattle.wire_edit.specs.Order.{IsTidy, first_from, next_step, node, rule_at, where_met}

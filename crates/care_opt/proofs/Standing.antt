@@ -11,7 +11,7 @@ use Rattle.gate_net.specs.declared.Kind.TheVariants.{Not, One, Source, Zero}
 use Rattle.gate_net.specs.declared.Family.{Family}
 use Rattle.gate_net.specs.declared.Family.TheVariants.{Constant, Input, Junction, Parity}
 use Rattle.gate_net.proofs.Public.{drivers_redirected, node_at-moved, redirect_cases, redriven_node, with_node-other, with_node-there}
-use Rattle.graph_to_model.specs.Making.{gate_of_step}
+use Rattle.wire_edit.specs.Steps.{gate_of_step}
 use Rattle.joined_nets.specs.Growing.{and_gate}
 use Rattle.joined_nets.specs.Joined.{both, first_gate}
 use Rattle.journal_text.specs.Runs.{AcceptedTo, steps_of}

@@ -1,7 +1,7 @@
 -- Steps of main gates.
 use Rattle.std.specs.Prelude.{List, [], ℕ, ◌<◌, ◌∷◌}
 use Rattle.gate_net.specs.Net.{Net}
-use Rattle.graph_to_model.specs.Making.{gate_of_step}
+use Rattle.wire_edit.specs.Steps.{gate_of_step}
 use Rattle.journal_text.specs.Runs.{AcceptedTo, steps_of}
 use Rattle.journal_text.specs.declared.record.Record.{Record}
 use Rattle.wire_edit.specs.Laws.{IsTidying}

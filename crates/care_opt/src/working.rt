@@ -1,46 +1,24 @@
 // Working on the main gates inside a trial: tidying and fixing.
 ghost use Rattle.std.specs.Prelude.{◌≡◌, ◌<◌, ◌≤◌, ◌+◌, false, true};
 ghost use Rattle.gate_graph.specs.Circuit.{net_of};
-ghost use Rattle.graph_to_model.specs.Making.{gate_of_step};
+ghost use Rattle.wire_edit.specs.Steps.{gate_of_step};
 ghost use Rattle.wire_edit.specs.Work.{work};
 ghost use Rattle.care_opt.specs.Gated.{IsMainFault};
 ghost use Rattle.care_opt.specs.Inner.Working.{HasFallen, HasStepped, HasTree, Works};
 ghost use Rattle.care_opt.specs.MainSteps.{IsMainTidy};
 
 use journal_text::runs_join;
-use rm_base::{Fault, Made, NodeId};
+use rm_base::{Fault, Made};
 use wire_edit::{
     Step, Trial, answers_agree, fixes_lower, order_tells, room_suffices, tidying_ends,
 };
-
-// The gate that a step is at.
-fn gate_of(step: Step) -> NodeId
-    ensures { result ≡ gate_of_step step }
-{
-    match step {
-        Step::Add { gate, node: _ } => gate,
-        Step::Fix {
-            gate,
-            position: _,
-            value: _,
-        } => gate,
-        Step::NewNot { node } => node,
-        Step::Const { gate, position: _ } => gate,
-        Step::Same { gate, position: _ } => gate,
-        Step::NoPins { gate } => gate,
-        Step::OnePin { gate } => gate,
-        Step::Twice { gate } => gate,
-        Step::Twin { gate, other: _ } => gate,
-        Step::Dead { gate } => gate,
-    }
-}
 
 // Whether the step is at a main gate.
 fn is_main(step: Step, bound: u32) -> bool
     ensures main { result ≡ true → (gate_of_step step).0 < bound }
     ensures other { result ≡ false → bound ≤ (gate_of_step step).0 }
 {
-    gate_of(step).0 < bound
+    step.gate().0 < bound
 }
 
 // Keeps the trial's steps, and makes the next one of the tidying order; None where the net is tidy.

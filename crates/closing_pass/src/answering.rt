@@ -11,6 +11,7 @@ ghost use Rattle.recursive_learning.specs.Serving.{IsServing};
 ghost use Rattle.closing_pass.specs.Verdicts.{AreVerdicts, HavePins, IsAnswer};
 
 use crate::answers::Answers;
+use crate::effort::Effort;
 use candidate_vectors::complete;
 use fault_decision::Decider;
 use fault_sim::Lanes;
@@ -21,24 +22,21 @@ use refutation::FactSet;
 use rm_base::{Fault, NoMemory, Settings, Vector};
 use std::alloc::Global;
 
-// What searches for tests on a graph, and what simulates it; and whether faults whose search was cut short are searched again.
+// What searches for tests on a graph, and what simulates it; and how much is done for faults whose search was cut short.
 #[derive(Drop)]
 struct Tools {
     searcher: Searcher,
     lanes: Lanes,
-    again: bool,
+    effort: Effort,
 }
 
 // Most faults are detected by a search of so few edges, which costs less than learning.
 const FEW_EDGES: u32 = 16;
 
-// A smaller budget asks for no more than it says.
-const USUAL_BUDGET: u32 = 256;
+/// A smaller budget asks for no more than it says.
+pub(crate) const USUAL_BUDGET: u32 = 256;
 
-// So many splits decide most faults whose search was cut short; fewer where the graph is large, since each may look at every
-// node.
-const MOST_SPLITS: u32 = 4096;
-
+// In a graph of more nodes a fault has fewer splits, since each may look at every node.
 const MOST_NODES: u32 = 2048;
 
 // A vector that completes the facts to which lines lead, and detects the fault.
@@ -82,8 +80,8 @@ fn detected_soon(
     }
 }
 
-// Whether the search was cut short.
-fn is_spent(verdict: &Verdict) -> bool {
+/// Whether the search was cut short.
+pub(crate) fn is_spent(verdict: &Verdict) -> bool {
     match verdict {
         Verdict::Spent(_) => true,
         _ => false,
@@ -102,18 +100,20 @@ fn make_decider(alloc: Global, graph: &Graph, kept: &mut Option<Decider>) -> Res
 }
 
 // How many splits a fault may take.
-fn splits_for(graph: &Graph) -> u32 {
+fn splits_for(graph: &Graph, effort: Effort) -> u32 {
+    let most = effort.splits();
     let bound = graph.node_bound();
     if bound <= MOST_NODES {
-        return MOST_SPLITS;
+        return most;
     }
-    MOST_SPLITS * MOST_NODES / bound
+    most * MOST_NODES / bound
 }
 
 // The verdict of a fault whose search was cut short, where it is decided. The decider is made when it is first asked, and kept.
 fn decide_spent(
     alloc: Global,
     question: &Question<'_>,
+    effort: Effort,
     kept: &mut Option<Decider>,
     lanes: &mut Lanes,
 ) -> Result<Option<Verdict>, NoMemory>
@@ -126,7 +126,7 @@ fn decide_spent(
 {
     make_decider(alloc, question.graph, kept)?;
     match kept {
-        Some(decider) => decider.decide(question, splits_for(question.graph), lanes),
+        Some(decider) => decider.decide(question, splits_for(question.graph, effort), lanes),
         None => Ok(None),
     }
 }
@@ -149,10 +149,10 @@ fn search_longer(
     ensures decides { OnOk result (IfSome decider.new (DecidesOn (net_of question.now.graph.now))) }
 {
     let verdict = tools.searcher.search(question, budget)?;
-    if !tools.again || budget < USUAL_BUDGET || !is_spent(&verdict) {
+    if !tools.effort.is_longer() || budget < USUAL_BUDGET || !is_spent(&verdict) {
         return Ok(verdict);
     }
-    let decided = decide_spent(alloc, question, decider, &mut tools.lanes)?;
+    let decided = decide_spent(alloc, question, tools.effort, decider, &mut tools.lanes)?;
     match decided {
         Some(other) => Ok(other),
         None => Ok(verdict),
@@ -185,7 +185,20 @@ fn search_open(
     search_longer(alloc, question, budget, tools, decider)
 }
 
-// The verdict of the fault: it is refuted at the depth of the settings, and else searched with their budget. As most faults
+// The depth at which faults are refuted: at least 1 where a search may be long, as one that refutes costs more than what
+// justifications have in common.
+fn depth_for(settings: &Settings, effort: Effort) -> u8
+    requires { settings.now.depth ≤ 2 }
+    ensures { result ≤ 2 }
+{
+    if effort.is_longer() && settings.budget >= USUAL_BUDGET {
+        settings.depth.max(1)
+    } else {
+        settings.depth
+    }
+}
+
+// The verdict of the fault: it is refuted by learning, and else searched with the budget of the settings. As most faults
 // have a test, one is looked for before that where it costs little; a budget of few edges asks for no more than these.
 fn answer(
     alloc: Global,
@@ -212,7 +225,7 @@ fn answer(
             return Ok(Verdict::Detected(vector));
         }
     }
-    match refuter.refute(question, settings.depth)? {
+    match refuter.refute(question, depth_for(settings, tools.effort))? {
         Some(tree) => Ok(Verdict::Refuted(tree)),
         None => search_open(
             alloc,
@@ -310,14 +323,14 @@ fn answer_all(
     answer_lazily(alloc, graph, faults, settings, &mut refuter, tools)
 }
 
-/// The verdicts of the faults, in order, by one refuter and one set of tools. Those whose search is cut short are searched again,
-/// where that is asked for.
+/// The verdicts of the faults, in order, by one refuter and one set of tools. For those whose search is cut short as much is
+/// done as that says.
 pub(crate) fn answers(
     alloc: Global,
     graph: &Graph,
     faults: &[Fault],
     settings: &Settings,
-    again: bool,
+    effort: Effort,
 ) -> Result<Answers, NoMemory>
     requires pins { HavePins (net_of graph.now) faults.now }
     requires depth { settings.now.depth ≤ 2 }
@@ -327,7 +340,7 @@ pub(crate) fn answers(
     let mut tools = Tools {
         searcher: Searcher::new(alloc, graph)?,
         lanes: Lanes::new(alloc, graph)?,
-        again,
+        effort,
     };
     answer_all(alloc, graph, faults, settings, &mut tools)
 }

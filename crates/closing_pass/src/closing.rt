@@ -16,8 +16,9 @@ ghost use Rattle.closing_pass.specs.Inner.Closing.{HasRecordedFix, Went};
 ghost use Rattle.closing_pass.specs.Inner.Findings.{AreLong};
 ghost use Rattle.closing_pass.specs.Reports.{AreClosed, HasClosed, IsNoFuller};
 
+use crate::effort::Effort;
 use crate::fixing::fix_and_tidy;
-use crate::passing::{Passed, pass};
+use crate::passing::{Passed, pass_twice};
 use crate::report::Report;
 use crate::words::blocks_of;
 use candidate_vectors::drawn_vectors;
@@ -83,6 +84,7 @@ fn close_all<R: Threads + Sync, G: Gate, S: Shelf>(
     trial: &mut Trial,
     settings: &Settings,
     gate: &G,
+    effort: Effort,
     shelf: &mut S,
     journal: &str,
     done: &mut u64,
@@ -114,7 +116,16 @@ fn close_all<R: Threads + Sync, G: Gate, S: Shelf>(
         local: 0,
     };
     loop {
-        match pass(rt, alloc, trial.graph(), settings, gate, &mut kept, done)? {
+        match pass_twice(
+            rt,
+            alloc,
+            trial.graph(),
+            settings,
+            gate,
+            effort,
+            &mut kept,
+            done,
+        )? {
             Passed::Closed(verdicts) => {
                 let sources = trial.graph().source_count();
                 let found = blocks_of(alloc, kept.as_slice(), sources)?;
@@ -130,6 +141,56 @@ fn close_all<R: Threads + Sync, G: Gate, S: Shelf>(
             }
         }
     }
+}
+
+// Closes each fault of a tidy net, with that effort where a search is cut short.
+fn close_with<R: Threads + Sync, G: Gate, S: Shelf>(
+    rt: &R,
+    alloc: Global,
+    graph: Graph,
+    settings: &Settings,
+    gate: &G,
+    effort: Effort,
+    shelf: &mut S,
+    journal: &str,
+    work: &mut u64,
+) -> Result<(Graph, Report), Stop>
+    requires tidy { IsTidy (net_of graph) }
+    requires few { pins_taken graph + live_nodes graph ≤ 1048576 }
+    requires depth { settings.now.depth ≤ 2 }
+    requires budget { 0 < settings.now.budget }
+    requires workers { (0 < settings.now.workers) × (settings.now.workers ≤ 64) }
+    requires there { IsThere (S.files shelf.old) journal.now }
+    ensures closed { IfOk result (λ r. HasClosed (net_of graph) (net_of r.0) r.1 (S.files shelf.old) (S.files shelf.new) journal.now) }
+    ensures verdicts { IfOk result (λ r. AreClosed (net_of r.0) settings.now.budget r.1.verdicts.items) }
+    ensures found { IfOk result (λ r. HaveVectors (map (λ b. b.items) r.1.found.items) r.1.verdicts.items) }
+    ensures tidy { IfOk result (λ r. IsTidy (net_of r.0)) }
+    ensures keeps { IfOk result (λ r. Keeps (net_of graph) (net_of r.0)) }
+    ensures no_fuller { IfOk result (λ r. IsNoFuller graph r.0) }
+    ensures local { IfOk result (λ r. r.1.local ≤ 2 ^ 45) }
+    ensures grown { work.old ≤ work.new }
+    ensures there { IsThere (S.files shelf.new) journal.now }
+    ensures stopped { OnErr result (IsStopped (net_of graph) (S.files shelf.old) (S.files shelf.new) journal.now) }
+    ensures later { S.faults shelf.old ≤ S.faults shelf.new }
+    ensures failed { result ≡ Err stop.Failed → Rose (S.faults shelf.old) (S.faults shelf.new) }
+{
+    texts_append();
+    accepted_runs_keep();
+    tidying_ends();
+    graph.well_formed();
+    let room = Room::enough(&graph);
+    let mut trial = match Trial::begin_tidy(alloc, graph, room) {
+        Ok(trial) => trial,
+        Err(BeginRefusal::NoMemory { graph: _ }) => return Err(Stop::NoMemory),
+    };
+    let mut done = *work;
+    let report = close_all(
+        rt, alloc, &mut trial, settings, gate, effort, shelf, journal, &mut done,
+    )?;
+    *work = (*work).max(done);
+    let last = trial.commit();
+    last.well_formed();
+    Ok((last, report))
 }
 
 /// Closes each fault of a tidy net: with a vector that detects it, or, where a search spends its budget, with the tree of
@@ -166,21 +227,59 @@ pub fn close_faults<R: Threads + Sync, G: Gate, S: Shelf>(
     ensures later { S.faults shelf.old ≤ S.faults shelf.new }
     ensures failed { result ≡ Err stop.Failed → Rose (S.faults shelf.old) (S.faults shelf.new) }
 {
-    texts_append();
-    accepted_runs_keep();
-    tidying_ends();
-    graph.well_formed();
-    let room = Room::enough(&graph);
-    let mut trial = match Trial::begin_tidy(alloc, graph, room) {
-        Ok(trial) => trial,
-        Err(BeginRefusal::NoMemory { graph: _ }) => return Err(Stop::NoMemory),
-    };
-    let mut done = *work;
-    let report = close_all(
-        rt, alloc, &mut trial, settings, gate, shelf, journal, &mut done,
-    )?;
-    *work = (*work).max(done);
-    let last = trial.commit();
-    last.well_formed();
-    Ok((last, report))
+    close_with(
+        rt,
+        alloc,
+        graph,
+        settings,
+        gate,
+        Effort::All,
+        shelf,
+        journal,
+        work,
+    )
+}
+
+/// The same before the first addition, where the vectors serve tries and the verdicts aren't written: for a fault whose search is cut
+/// short less is done.
+pub fn close_before_tries<R: Threads + Sync, G: Gate, S: Shelf>(
+    rt: &R,
+    alloc: Global,
+    graph: Graph,
+    settings: &Settings,
+    gate: &G,
+    shelf: &mut S,
+    journal: &str,
+    work: &mut u64,
+) -> Result<(Graph, Report), Stop>
+    requires tidy { IsTidy (net_of graph) }
+    requires few { pins_taken graph + live_nodes graph ≤ 1048576 }
+    requires depth { settings.now.depth ≤ 2 }
+    requires budget { 0 < settings.now.budget }
+    requires workers { (0 < settings.now.workers) × (settings.now.workers ≤ 64) }
+    requires there { IsThere (S.files shelf.old) journal.now }
+    ensures closed { IfOk result (λ r. HasClosed (net_of graph) (net_of r.0) r.1 (S.files shelf.old) (S.files shelf.new) journal.now) }
+    ensures verdicts { IfOk result (λ r. AreClosed (net_of r.0) settings.now.budget r.1.verdicts.items) }
+    ensures found { IfOk result (λ r. HaveVectors (map (λ b. b.items) r.1.found.items) r.1.verdicts.items) }
+    ensures tidy { IfOk result (λ r. IsTidy (net_of r.0)) }
+    ensures keeps { IfOk result (λ r. Keeps (net_of graph) (net_of r.0)) }
+    ensures no_fuller { IfOk result (λ r. IsNoFuller graph r.0) }
+    ensures local { IfOk result (λ r. r.1.local ≤ 2 ^ 45) }
+    ensures grown { work.old ≤ work.new }
+    ensures there { IsThere (S.files shelf.new) journal.now }
+    ensures stopped { OnErr result (IsStopped (net_of graph) (S.files shelf.old) (S.files shelf.new) journal.now) }
+    ensures later { S.faults shelf.old ≤ S.faults shelf.new }
+    ensures failed { result ≡ Err stop.Failed → Rose (S.faults shelf.old) (S.faults shelf.new) }
+{
+    close_with(
+        rt,
+        alloc,
+        graph,
+        settings,
+        gate,
+        Effort::Few,
+        shelf,
+        journal,
+        work,
+    )
 }

@@ -8,6 +8,7 @@ mod answers;
 mod batching;
 mod choosing;
 mod closing;
+mod effort;
 mod finding;
 mod fixing;
 mod laws;
@@ -23,7 +24,7 @@ mod verdicts;
 mod words;
 
 pub use batching::batch;
-pub use closing::close_faults;
+pub use closing::{close_before_tries, close_faults};
 pub use laws::{closed_are_recordable, tidy_nets_have_sources};
 pub use recording::write_verdicts;
 pub use report::Report;

@@ -7,6 +7,7 @@ ghost use Rattle.closing_pass.specs.Verdicts.{AreVerdicts, HavePins};
 
 use crate::answering::answers;
 use crate::answers::Answers;
+use crate::effort::Effort;
 use gate_graph::Graph;
 use podem::Verdict;
 use rm_base::{Fault, Gate, NoMemory, Settings};
@@ -20,7 +21,7 @@ fn piece<G: Gate>(
     faults: &[Fault],
     settings: &Settings,
     gate: &G,
-    again: bool,
+    effort: Effort,
     number: usize,
 ) -> Result<Answers, NoMemory>
     requires pins { HavePins (net_of graph.now) faults.now }
@@ -29,7 +30,7 @@ fn piece<G: Gate>(
     ensures { IfOk result (λ a. AreVerdicts (net_of graph.now) settings.now.budget faults.now a.verdicts.items) }
 {
     gate.pass(number);
-    answers(alloc, graph, faults, settings, again)
+    answers(alloc, graph, faults, settings, effort)
 }
 
 // The verdicts of these and then of those.
@@ -75,7 +76,7 @@ pub(crate) fn pieces<R: Threads + Sync, G: Gate>(
     faults: &[Fault],
     settings: &Settings,
     gate: &G,
-    again: bool,
+    effort: Effort,
     first: usize,
     count: usize,
 ) -> Result<Answers, NoMemory>
@@ -89,7 +90,7 @@ pub(crate) fn pieces<R: Threads + Sync, G: Gate>(
     ensures { IfOk result (λ a. AreVerdicts (net_of graph.now) settings.now.budget faults.now a.verdicts.items) }
 {
     if count == 1 {
-        return piece(alloc, graph, faults, settings, gate, again, first);
+        return piece(alloc, graph, faults, settings, gate, effort, first);
     }
     let left = count / 2;
     let right = count - left;
@@ -99,7 +100,7 @@ pub(crate) fn pieces<R: Threads + Sync, G: Gate>(
         || -> Result<Answers, NoMemory>
             requires { IsSync R.row × IsSync G.row × (settings.now.depth ≤ 2) × (0 < settings.now.budget) × HavePins (net_of graph.now) front.now × (0 < left) × (left ≤ length front.now) × (length front.now ≤ 64) × (first + left ≤ 64) }
             ensures { IfOk result (λ v. AreVerdicts (net_of graph.entry.now) settings.entry.now.budget front.entry.now v.verdicts.items) }
-        { pieces(rt, alloc, graph, front, settings, gate, again, first, left) },
+        { pieces(rt, alloc, graph, front, settings, gate, effort, first, left) },
         || -> Result<Answers, NoMemory>
             requires { IsSync R.row × IsSync G.row × (settings.now.depth ≤ 2) × (0 < settings.now.budget) × HavePins (net_of graph.now) back.now × (0 < right) × (right ≤ length back.now) × (length back.now ≤ 64) × (first + left + right ≤ 64) }
             ensures { IfOk result (λ v. AreVerdicts (net_of graph.entry.now) settings.entry.now.budget back.entry.now v.verdicts.items) }
@@ -111,7 +112,7 @@ pub(crate) fn pieces<R: Threads + Sync, G: Gate>(
                 back,
                 settings,
                 gate,
-                again,
+                effort,
                 first + left,
                 right,
             )

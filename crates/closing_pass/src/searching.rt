@@ -10,9 +10,10 @@ ghost use Rattle.closing_pass.specs.Verdicts.{HavePins};
 use crate::answers::Answers;
 use crate::batching::answer_batch;
 use crate::choosing::choose;
+use crate::effort::Effort;
 use crate::finding::Finding;
 use crate::trying::try_kept;
-use fault_sim::Lanes;
+use fault_sim::{Lanes, Observabilities};
 use gate_graph::Graph;
 use podem::Verdict;
 use refutation::Tree;
@@ -45,7 +46,7 @@ fn take_one(
     }
 }
 
-// Searches the next open faults, again where a search is cut short and the work has not reached its limit. Their verdicts are
+// Searches the next open faults; once the work has reached its limit nothing more is done where a search is cut short. Their verdicts are
 // taken in order, up to the first that is refuted.
 fn search_next<R: Threads + Sync, G: Gate>(
     rt: &R,
@@ -54,6 +55,7 @@ fn search_next<R: Threads + Sync, G: Gate>(
     faults: &[Fault],
     settings: &Settings,
     gate: &G,
+    effort: Effort,
     found: &mut Vec<Finding>,
     kept: &mut Vec<Vector>,
     next: &mut usize,
@@ -70,7 +72,11 @@ fn search_next<R: Threads + Sync, G: Gate>(
     ensures more { OnOk result (length kept.old.items ≤ length kept.new.items) }
 {
     let chosen = choose(alloc, faults, found, *next)?;
-    let again = !settings.is_worked_off(*work);
+    let effort = if settings.is_worked_off(*work) {
+        Effort::Once
+    } else {
+        effort
+    };
     let Answers {
         verdicts,
         work: done,
@@ -81,7 +87,7 @@ fn search_next<R: Threads + Sync, G: Gate>(
         chosen.faults.as_slice(),
         settings,
         gate,
-        again,
+        effort,
     )?;
     *work = work.saturating_add(done);
     let mut at = 0usize;
@@ -104,7 +110,9 @@ pub(crate) fn search_and_try<R: Threads + Sync, G: Gate>(
     faults: &[Fault],
     settings: &Settings,
     gate: &G,
+    effort: Effort,
     lanes: &mut Lanes,
+    notes: &mut Observabilities,
     found: &mut Vec<Finding>,
     kept: &mut Vec<Vector>,
     next: &mut usize,
@@ -123,11 +131,20 @@ pub(crate) fn search_and_try<R: Threads + Sync, G: Gate>(
 {
     let tried = kept.len();
     let refuted = search_next(
-        rt, alloc, graph, faults, settings, gate, found, kept, next, work,
+        rt, alloc, graph, faults, settings, gate, effort, found, kept, next, work,
     )?;
     if let Some(found_refuted) = refuted {
         return Ok(Some(found_refuted));
     }
-    try_kept(alloc, graph, faults, kept.as_slice(), lanes, found, tried)?;
+    try_kept(
+        alloc,
+        graph,
+        faults,
+        kept.as_slice(),
+        lanes,
+        notes,
+        found,
+        tried,
+    )?;
     Ok(None)
 }

@@ -1,6 +1,7 @@
 // Trying kept vectors on the faults that no vector detects yet, 64 at once.
 ghost use Rattle.std.specs.Prelude.{◌≡◌, ◌≤◌, ◌<◌, ◌+◌, ℕ, Bool, List, IfSome, IsNone, OnOk, length};
 ghost use Rattle.fault_sim.specs.LaneStates.{Fits, IsSimulated};
+ghost use Rattle.fault_sim.specs.Observing.{AreObservabilities};
 ghost use Rattle.fault_sim.specs.Words.{assignment};
 ghost use Rattle.gate_graph.specs.Circuit.{net_of};
 ghost use Rattle.gate_net.specs.Net.{Net, source_count};
@@ -11,21 +12,28 @@ ghost use Rattle.closing_pass.specs.Verdicts.{HavePins};
 
 use crate::finding::{Finding, is_sought};
 use crate::words::words_of;
-use fault_sim::Lanes;
+use fault_sim::{Lanes, Observabilities};
 use gate_graph::{Graph, Question};
 use rm_base::{Fault, NoMemory, Vector};
 use std::alloc::Global;
 
 // The first of so many lanes whose vector detects the fault.
-fn first_lane(question: &Question<'_>, lanes: &mut Lanes, count: usize) -> Option<usize>
+fn first_lane(
+    question: &Question<'_>,
+    lanes: &mut Lanes,
+    notes: &mut Observabilities,
+    count: usize,
+) -> Option<usize>
     requires fits { Fits lanes.old (net_of question.now.graph.now) }
     requires simulated { IsSimulated lanes.old (net_of question.now.graph.now) }
+    requires right { AreObservabilities notes.old (net_of question.now.graph.now) lanes.old.words }
     requires few { count ≤ 64 }
     ensures first { IfSome result (λ i. (i < count) × Detects (net_of question.now.graph.now) question.now.fault (assignment lanes.old.words i)) }
     ensures none { IsNone result → (i : ℕ) → i < count → Detects (net_of question.now.graph.now) question.now.fault (assignment lanes.old.words i) → ⊥ }
     ensures same { lanes.new ≡ lanes.old }
+    ensures right { AreObservabilities notes.new (net_of question.now.graph.now) lanes.old.words }
 {
-    let Some(lane) = lanes.first_detecting(question) else {
+    let Some(lane) = lanes.first_detecting_sharing(question, notes) else {
         return None;
     };
     if (lane as usize) < count {
@@ -40,6 +48,7 @@ fn try_on(
     question: &Question<'_>,
     kept: &[Vector],
     lanes: &mut Lanes,
+    notes: &mut Observabilities,
     found: &mut Vec<Finding>,
     place: usize,
     first: usize,
@@ -47,6 +56,7 @@ fn try_on(
 )
     requires fits { Fits lanes.old (net_of question.now.graph.now) }
     requires simulated { IsSimulated lanes.old (net_of question.now.graph.now) }
+    requires right { AreObservabilities notes.old (net_of question.now.graph.now) lanes.old.words }
     requires few { count ≤ 64 }
     requires numbers { first + count ≤ length kept.now }
     requires long { AreLong kept.now (source_count (net_of question.now.graph.now)) }
@@ -54,11 +64,12 @@ fn try_on(
     requires place { place < length found.old.items }
     ensures tried { HasTriedOn (net_of question.now.graph.now) kept.now first (first + count) question.now.fault place found.old.items found.new.items }
     ensures same { lanes.new ≡ lanes.old }
+    ensures right { AreObservabilities notes.new (net_of question.now.graph.now) lanes.old.words }
 {
     if !is_sought(&found[place]) {
         return;
     }
-    if let Some(lane) = first_lane(question, lanes, count) {
+    if let Some(lane) = first_lane(question, lanes, notes, count) {
         found[place] = Finding::Detected(first + lane);
     }
 }
@@ -69,6 +80,7 @@ fn try_on_each(
     faults: &[Fault],
     kept: &[Vector],
     lanes: &mut Lanes,
+    notes: &mut Observabilities,
     found: &mut Vec<Finding>,
     first: usize,
     count: usize,
@@ -76,6 +88,7 @@ fn try_on_each(
     requires pins { HavePins (net_of graph.now) faults.now }
     requires fits { Fits lanes.old (net_of graph.now) }
     requires simulated { IsSimulated lanes.old (net_of graph.now) }
+    requires right { AreObservabilities notes.old (net_of graph.now) lanes.old.words }
     requires few { count ≤ 64 }
     requires numbers { first + count ≤ length kept.now }
     requires long { AreLong kept.now (source_count (net_of graph.now)) }
@@ -89,7 +102,7 @@ fn try_on_each(
             graph,
             fault: faults[place],
         };
-        try_on(&question, kept, lanes, found, place, first, count);
+        try_on(&question, kept, lanes, notes, found, place, first, count);
     }
 }
 
@@ -100,6 +113,7 @@ fn try_some(
     faults: &[Fault],
     kept: &[Vector],
     lanes: &mut Lanes,
+    notes: &mut Observabilities,
     found: &mut Vec<Finding>,
     first: usize,
     count: usize,
@@ -116,7 +130,8 @@ fn try_some(
     let vectors = &kept[first..first + count];
     let words = words_of(alloc, vectors, graph.source_count())?;
     lanes.simulate64(graph, words.as_slice());
-    try_on_each(graph, faults, kept, lanes, found, first, count);
+    notes.forget();
+    try_on_each(graph, faults, kept, lanes, notes, found, first, count);
     Ok(())
 }
 
@@ -127,6 +142,7 @@ pub(crate) fn try_kept(
     faults: &[Fault],
     kept: &[Vector],
     lanes: &mut Lanes,
+    notes: &mut Observabilities,
     found: &mut Vec<Finding>,
     from: usize,
 ) -> Result<(), NoMemory>
@@ -141,7 +157,9 @@ pub(crate) fn try_kept(
     let mut first = from;
     while first < kept.len() {
         let count = (kept.len() - first).min(64);
-        try_some(alloc, graph, faults, kept, lanes, found, first, count)?;
+        try_some(
+            alloc, graph, faults, kept, lanes, notes, found, first, count,
+        )?;
         first += count;
     }
     Ok(())

@@ -11,10 +11,10 @@ ghost use Rattle.fault_sim.specs.Inner.Pending.{HasRoom, IsMarked};
 ghost use Rattle.fault_sim.specs.Inner.Simulating.{IsWithin};
 ghost use Rattle.fault_sim.specs.Inner.Spreading.{AreLanes, IsUnstamped};
 
-use crate::detecting::mark_after;
 use crate::good_reading::good_word;
 use crate::pending::{mark, next_pending, unmark};
 use crate::spread::Spread;
+use crate::spreading::mark_after;
 use gate_graph::Graph;
 use rm_base::NodeId;
 

@@ -4,6 +4,5 @@ pub mod Wires
 pub mod Fits
 pub mod Laws
 pub mod Rows
-pub mod Making
 pub mod Refusals
 pub mod Inner

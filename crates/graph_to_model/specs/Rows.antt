@@ -10,7 +10,7 @@ use Rattle.rm_model.specs.declared.parts.Cover.{Cover}
 use Rattle.rm_model.specs.declared.parts.Model.{Model}
 use Rattle.cover_decompose.specs.Rows.{r2, model_with}
 use Rattle.graph_to_model.specs.NetModel.{cover_with, gate_cover_of}
-use Rattle.graph_to_model.specs.Making.{gate_of_step}
+use Rattle.wire_edit.specs.Steps.{gate_of_step}
 
 -- the models written for the decompositions of three models
 abbrev pub r2_out : List Cover

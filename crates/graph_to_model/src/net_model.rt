@@ -6,7 +6,7 @@ ghost use Rattle.gate_graph.specs.Circuit.{net_of};
 ghost use Rattle.wire_edit.specs.Order.{IsTidy, next_step};
 ghost use Rattle.graph_to_model.specs.Fits.{Fits};
 ghost use Rattle.graph_to_model.specs.Laws.{AreFew};
-ghost use Rattle.graph_to_model.specs.Making.{gate_of_step};
+ghost use Rattle.wire_edit.specs.Steps.{gate_of_step};
 ghost use Rattle.graph_to_model.specs.NetModel.{model_of_net};
 ghost use Rattle.graph_to_model.specs.Refusals.{IsRefused};
 
@@ -50,23 +50,6 @@ impl From<NoMemory> for ModelRefusal {
 
     fn from(_error: NoMemory) -> Self {
         ModelRefusal::NoMemory
-    }
-}
-
-fn gate_of(step: Step) -> NodeId
-    ensures { result ≡ gate_of_step step }
-{
-    match step {
-        Step::Add { gate, .. }
-        | Step::Fix { gate, .. }
-        | Step::Const { gate, .. }
-        | Step::Same { gate, .. }
-        | Step::NoPins { gate }
-        | Step::OnePin { gate }
-        | Step::Twice { gate }
-        | Step::Twin { gate, .. }
-        | Step::Dead { gate } => gate,
-        Step::NewNot { node } => node,
     }
 }
 
@@ -164,9 +147,7 @@ pub fn model_of(
 {
     graph.well_formed();
     if let Some(step) = next_step(alloc, graph) {
-        return Err(ModelRefusal::NotTidy {
-            node: gate_of(step),
-        });
+        return Err(ModelRefusal::NotTidy { node: step.gate() });
     }
     let model = model_of_tidy(alloc, keys, graph, original)?;
     Ok(model)

@@ -309,12 +309,12 @@ begun net fault reached numbers facts facts' facts'' taken taken' taken'' rest n
     all : TakesEquals (IsTaken fault.gate.0 numbers) facts taken facts'' taken''
     all = takes_join (λ z. z ≡ fault.gate.0) (IsAmongNumbers numbers) (IsTaken fault.gate.0 numbers) (λ z. (λ h. h, λ h. h)) facts facts' facts'' taken taken' taken'' one two
 
--- each node is on the agenda or settled by what isn't reached
-pub outside_pending : (net : Net) (fault : Fault) (nodes : List NodeId) (agenda : List Bool) → IsWellFormed net → ArePinless net nodes → ((k : ℕ) (n : NodeId) → slice_get nodes k ≡ Some n → IsSeen agenda n.0) → IsSeen agenda 0 → IsSeen agenda 1 → IsSeen agenda fault.gate.0 → (facts : List NodeFacts) → AreOutside net fault (held_by facts) → IsPending net fault facts agenda
-outside_pending net fault nodes agenda formed are on' zero' one' gate facts outside y = elim (seen_or_not agenda y) [
+-- each node is on the worklist or settled by what isn't reached
+pub outside_pending : (net : Net) (fault : Fault) (nodes : List NodeId) (worklist : List Bool) → IsWellFormed net → ArePinless net nodes → ((k : ℕ) (n : NodeId) → slice_get nodes k ≡ Some n → IsSeen worklist n.0) → IsSeen worklist 0 → IsSeen worklist 1 → IsSeen worklist fault.gate.0 → (facts : List NodeFacts) → AreOutside net fault (held_by facts) → IsPending net fault facts worklist
+outside_pending net fault nodes worklist formed are on' zero' one' gate facts outside y = elim (seen_or_not worklist y) [
   | inl seen ↦ inl seen
-  | inr off ↦ inr (outside_settled net fault (held_by facts) formed outside y (λ is. off (subst (IsSeen agenda) (sym is) zero')) (λ is. off (subst (IsSeen agenda) (sym is) one')) (λ is. off (subst (IsSeen agenda) (sym is) gate))
-      (λ pinless. let listed = are.all y pinless in off (subst (IsSeen agenda) listed.1.1.1 (on' listed.0 listed.1.0 listed.1.1.0))))
+  | inr off ↦ inr (outside_settled net fault (held_by facts) formed outside y (λ is. off (subst (IsSeen worklist) (sym is) zero')) (λ is. off (subst (IsSeen worklist) (sym is) one')) (λ is. off (subst (IsSeen worklist) (sym is) gate))
+      (λ pinless. let listed = are.all y pinless in off (subst (IsSeen worklist) listed.1.1.1 (on' listed.0 listed.1.0 listed.1.1.0))))
 ]
 
 -- WHAT IS ANSWERED

@@ -75,8 +75,8 @@ holds_one net fault y facts facts' x fact out is = record {
 }
 
 -- ALL NODES
-pub begins_none : (net : Net) (fault : Fault) (facts : List NodeFacts) (agenda : List Bool) → length facts ≡ length net.nodes → ((x : ℕ) (fact : Fact) → held_by facts x fact ≡ false) → BeginsBelow net fault 0 facts agenda
-begins_none net fault facts agenda size none = record {
+pub begins_none : (net : Net) (fault : Fault) (facts : List NodeFacts) (worklist : List Bool) → length facts ≡ length net.nodes → ((x : ℕ) (fact : Fact) → held_by facts x fact ≡ false) → BeginsBelow net fault 0 facts worklist
+begins_none net fault facts worklist size none = record {
   outside = λ x fact. (λ e. let wrong : held_by facts x fact ≡ false = none x fact in cc, λ h. absurd (below_none x h.0));
   pinless = λ y below. absurd (below_none y below);
   size = size;
@@ -85,8 +85,8 @@ begins_none net fault facts agenda size none = record {
     below_none : (x : ℕ) → x < 0 → ⊥
     below_none x low = omega arith
 
-pub begins_more : (net : Net) (fault : Fault) (number : ℕ) (facts facts' : List NodeFacts) (agenda agenda' : List Bool) → BeginsBelow net fault number facts agenda → HoldsOutside net fault number facts facts' → (IsPinless net number → IsSeen agenda' number) → ((z : ℕ) → IsSeen agenda z → IsSeen agenda' z) → BeginsBelow net fault (number + 1) facts' agenda'
-begins_more net fault number facts facts' agenda agenda' b h here kept = record {
+pub begins_more : (net : Net) (fault : Fault) (number : ℕ) (facts facts' : List NodeFacts) (worklist worklist' : List Bool) → BeginsBelow net fault number facts worklist → HoldsOutside net fault number facts facts' → (IsPinless net number → IsSeen worklist' number) → ((z : ℕ) → IsSeen worklist z → IsSeen worklist' z) → BeginsBelow net fault (number + 1) facts' worklist'
+begins_more net fault number facts facts' worklist worklist' b h here kept = record {
   outside = λ x fact. (
     λ e. elim ((h.facts x fact).0 e) [
       | inl before ↦ let low : x < number = ((b.outside x fact).0 before).0 in (omega arith, ((b.outside x fact).0 before).1)
@@ -99,35 +99,35 @@ begins_more net fault number facts facts' agenda agenda' b h here kept = record 
   );
   pinless = λ y low pinless. elim (cases_lt y number) [
     | inl before ↦ kept y (b.pinless y before pinless)
-    | inr high ↦ let is : number ≡ y = omega arith in subst (λ n. IsPinless net n → IsSeen agenda' n) is here pinless
+    | inr high ↦ let is : number ≡ y = omega arith in subst (λ n. IsPinless net n → IsSeen worklist' n) is here pinless
   ];
   size = h.size ∙ b.size;
 }
 
-pub begins_outside : (net : Net) (fault : Fault) (facts : List NodeFacts) (agenda : List Bool) → BeginsBelow net fault (length net.nodes) facts agenda → AreOutside net fault (held_by facts)
-begins_outside net fault facts agenda b x fact = (λ e. ((b.outside x fact).0 e).1, λ out. (b.outside x fact).1 (kind_live net x out.0, out))
+pub begins_outside : (net : Net) (fault : Fault) (facts : List NodeFacts) (worklist : List Bool) → BeginsBelow net fault (length net.nodes) facts worklist → AreOutside net fault (held_by facts)
+begins_outside net fault facts worklist b x fact = (λ e. ((b.outside x fact).0 e).1, λ out. (b.outside x fact).1 (kind_live net x out.0, out))
 
-pub begins_pending : (net : Net) (fault : Fault) (facts : List NodeFacts) (agenda agenda' : List Bool) → IsWellFormed net → BeginsBelow net fault (length net.nodes) facts agenda → ((z : ℕ) → IsSeen agenda z → IsSeen agenda' z) → IsSeen agenda' 0 → IsSeen agenda' 1 → IsSeen agenda' fault.gate.0 → IsPending net fault facts agenda'
-begins_pending net fault facts agenda agenda' formed b kept zero' one' gate y = elim (seen_or_not agenda' y) [
+pub begins_pending : (net : Net) (fault : Fault) (facts : List NodeFacts) (worklist worklist' : List Bool) → IsWellFormed net → BeginsBelow net fault (length net.nodes) facts worklist → ((z : ℕ) → IsSeen worklist z → IsSeen worklist' z) → IsSeen worklist' 0 → IsSeen worklist' 1 → IsSeen worklist' fault.gate.0 → IsPending net fault facts worklist'
+begins_pending net fault facts worklist worklist' formed b kept zero' one' gate y = elim (seen_or_not worklist' y) [
   | inl on' ↦ inl on'
-  | inr off ↦ inr (outside_settled net fault (held_by facts) formed (begins_outside net fault facts agenda b) y (λ is. off (subst (IsSeen agenda') (sym is) zero')) (λ is. off (subst (IsSeen agenda') (sym is) one')) (λ is. off (subst (IsSeen agenda') (sym is) gate))
+  | inr off ↦ inr (outside_settled net fault (held_by facts) formed (begins_outside net fault facts worklist b) y (λ is. off (subst (IsSeen worklist') (sym is) zero')) (λ is. off (subst (IsSeen worklist') (sym is) one')) (λ is. off (subst (IsSeen worklist') (sym is) gate))
       (λ pinless. off (kept y (b.pinless y (kind_live net y (pinless.0.0, pinless.0.1.0)) pinless))))
 ]
 
 -- the constants and the faulty gate were put on
-pub three_set : (net : Net) (fault : Fault) (agenda one two three : List Bool) → IsWellFormed net → HasPin net fault → length net.nodes ≤ length agenda → one ≡ slice_set agenda 0 true → two ≡ slice_set one 1 true → three ≡ slice_set two fault.gate.0 true → ((z : ℕ) → IsSeen agenda z → IsSeen three z) × (IsSeen three 0 × (IsSeen three 1 × IsSeen three fault.gate.0))
-three_set net fault agenda one two three formed stuck room is is' is'' = (
-  λ z seen. rw is'' (seen_kept two fault.gate.0 z (rw is' (seen_kept one 1 z (rw is (seen_kept agenda 0 z seen))))),
-  (rw is'' (seen_kept two fault.gate.0 0 (rw is' (seen_kept one 1 0 (rw is (seen_new agenda 0 zero_below))))), (rw is'' (seen_kept two fault.gate.0 1 (rw is' (seen_new one 1 one_below))), rw is'' (seen_new two fault.gate.0 gate_below))),
+pub three_set : (net : Net) (fault : Fault) (worklist one two three : List Bool) → IsWellFormed net → HasPin net fault → length net.nodes ≤ length worklist → one ≡ slice_set worklist 0 true → two ≡ slice_set one 1 true → three ≡ slice_set two fault.gate.0 true → ((z : ℕ) → IsSeen worklist z → IsSeen three z) × (IsSeen three 0 × (IsSeen three 1 × IsSeen three fault.gate.0))
+three_set net fault worklist one two three formed stuck room is is' is'' = (
+  λ z seen. rw is'' (seen_kept two fault.gate.0 z (rw is' (seen_kept one 1 z (rw is (seen_kept worklist 0 z seen))))),
+  (rw is'' (seen_kept two fault.gate.0 0 (rw is' (seen_kept one 1 0 (rw is (seen_new worklist 0 zero_below))))), (rw is'' (seen_kept two fault.gate.0 1 (rw is' (seen_new one 1 one_below))), rw is'' (seen_new two fault.gate.0 gate_below))),
 )
   where
-    same : length one ≡ length agenda
-    same = ap (λ xs. length xs) is ∙ length-set agenda 0 true
+    same : length one ≡ length worklist
+    same = ap (λ xs. length xs) is ∙ length-set worklist 0 true
 
-    same' : length two ≡ length agenda
+    same' : length two ≡ length worklist
     same' = ap (λ xs. length xs) is' ∙ length-set one 1 true ∙ same
 
-    zero_below : 0 < length agenda
+    zero_below : 0 < length worklist
     zero_below = let low : 0 < length net.nodes = kind_live net 0 (Zero, ([], formed.constants.zero_is)) in omega (arith, room)
 
     one_below : 1 < length one

@@ -33,9 +33,9 @@ use Rattle.rm_base.specs.declared.numbers.Fault.{Fault}
 use Rattle.rm_base.specs.declared.numbers.NodeId.{NodeId}
 
 -- ALL LINES
--- every number is on the agenda
-pub pending_first : (net : Net) (fault : Fault) (facts : List NodeFacts) (agenda : List Bool) (bound : ℕ) → bound ≡ length net.nodes → ((z : ℕ) → z < bound → IsSeen agenda z) → IsPending net fault facts agenda
-pending_first net fault facts agenda bound is on' y = elim (cases_lt y bound) [
+-- every number is on the worklist
+pub pending_first : (net : Net) (fault : Fault) (facts : List NodeFacts) (worklist : List Bool) (bound : ℕ) → bound ≡ length net.nodes → ((z : ℕ) → z < bound → IsSeen worklist z) → IsPending net fault facts worklist
+pending_first net fault facts worklist bound is on' y = elim (cases_lt y bound) [
   | inl low ↦ inl (on' y low)
   | inr high ↦ inr (λ l x fact place h. let low : y < length net.nodes = kind_live net y (place_live net fault (held_by facts) l x y fact place h) in absurd (omega arith))
 ]
@@ -183,10 +183,10 @@ good_free facts facts' x b free none is = free_more facts facts' x (Good b) free
       ]))
     ]
 
-pub good_pending : (net : Net) (fault : Fault) (facts facts' : List NodeFacts) (agenda agenda' : List Bool) (x : ℕ) (fact : Fact) → IsClosedUnderLines net fault (held_by facts) → Becomes facts facts' (with_fact (held_by facts) x fact) → Touches net agenda agenda' x → IsPending net fault facts' agenda'
-good_pending net fault facts facts' agenda agenda' x fact closed is t z =
-    elim (pending_more net fault facts facts' agenda agenda' x x fact (λ y. inr (inr (closed_settled net fault (held_by facts) closed y))) is t z) [
-      | inl same ↦ inl (subst (IsSeen agenda') (sym same) t.itself)
+pub good_pending : (net : Net) (fault : Fault) (facts facts' : List NodeFacts) (worklist worklist' : List Bool) (x : ℕ) (fact : Fact) → IsClosedUnderLines net fault (held_by facts) → Becomes facts facts' (with_fact (held_by facts) x fact) → Touches net worklist worklist' x → IsPending net fault facts' worklist'
+good_pending net fault facts facts' worklist worklist' x fact closed is t z =
+    elim (pending_more net fault facts facts' worklist worklist' x x fact (λ y. inr (inr (closed_settled net fault (held_by facts) closed y))) is t z) [
+      | inl same ↦ inl (subst (IsSeen worklist') (sym same) t.itself)
       | inr rest ↦ rest
     ]
 

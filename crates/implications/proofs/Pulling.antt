@@ -1,4 +1,4 @@
--- What a glance at a gate's pins gives.
+-- What a scan of a gate's pins gives.
 use Rattle.std.proofs.Common.{Bool, List, None, Option, Some, [], arith, false, inl, inr, not, refl, suc, sym, true, zero, ℕ, ◌<◌, ◌||◌, ◌∙◌, ◌∷◌, ◌≡◌, ◌≢◌, ◌⊎◌}
 use Rattle.std.proofs.lemmas.Bool.{and_parts, eq-eqb, or_cases}
 use Rattle.std.specs.List.{list_all, list_any}
@@ -8,9 +8,9 @@ use Rattle.gate_net.proofs.Public.{is_known_true, same_bool_not, same_bool_refl}
 use Rattle.gate_net.specs.Values.{same_bool}
 use Rattle.implications.specs.Inner.Pulls.{IsEqualPull, IsPull}
 use Rattle.implications.specs.declared.pulls.Pull.TheVariants.{Gate, Pin}
-use Rattle.refutation.proofs.Public.{all_not_any, glance_all, glance_many, glance_not_all, glance_one, is_known_some}
-use Rattle.refutation.specs.Pins.{FailsAt, Glances}
-use Rattle.gate_looks.specs.declared.pins.Glance.{Glance}
+use Rattle.refutation.proofs.Public.{all_not_any, scan_all, scan_many, scan_not_all, scan_one, is_known_some}
+use Rattle.refutation.specs.Pins.{FailsAt, IsScan}
+use Rattle.local_evaluation.specs.declared.pins.PinScan.{PinScan}
 use mathlib.Core.Bool.{beq}
 
 -- KNOWN VALUES
@@ -136,57 +136,57 @@ pull_known c value os known e is = (
 pub pull_unknown : (c : Bool) (os : List (Option Bool)) (known : Option Bool) → junction_follows c os ≡ None → known ≡ None → IsPull c os known None
 pull_unknown c os known e is = (λ v f. let wrong : None ≡ Some v = sym e ∙ f in cc, λ v other q o k back there. let wrong : None ≡ Some v = sym is ∙ k in cc)
 
-rest_some : (g : Glance) (c : Bool) (os : List (Option Bool)) → Glances g c os → junction_follows c os ≡ None → g.rest ≢ 0
-rest_some g c os h e is = let all : list_all (is_known (not c)) os ≡ true = glance_all g c os h is in let none : list_all (is_known (not c)) os ≡ false = (follows_none c os e).1 in cc
+rest_some : (g : PinScan) (c : Bool) (os : List (Option Bool)) → IsScan g c os → junction_follows c os ≡ None → g.rest ≢ 0
+rest_some g c os h e is = let all : list_all (is_known (not c)) os ≡ true = scan_all g c os h is in let none : list_all (is_known (not c)) os ≡ false = (follows_none c os e).1 in cc
 
 -- two pins or more aren't known to be c's opposite
-pub pull_many : (g : Glance) (c : Bool) (os : List (Option Bool)) (known : Option Bool) → Glances g c os → junction_follows c os ≡ None → known ≡ Some c → g.rest ≢ 1 → IsPull c os known None
+pub pull_many : (g : PinScan) (c : Bool) (os : List (Option Bool)) (known : Option Bool) → IsScan g c os → junction_follows c os ≡ None → known ≡ Some c → g.rest ≢ 1 → IsPull c os known None
 pull_many g c os known h e is many = (
   λ v f. let wrong : None ≡ Some v = sym e ∙ f in cc,
   λ v other q o k back there.
       let same : v ≡ c = some_is (sym k ∙ is) in
       let b : junction_back c c os q ≡ Some other = rw same at back in
       let yes' : all_but (is_known (not c)) q os ≡ true = (back_same c os q other b).0 in
-      let no' : all_but (is_known (not c)) q os ≡ false = glance_many g c os q h (rest_some g c os h e) many in
+      let no' : all_but (is_known (not c)) q os ≡ false = scan_many g c os q h (rest_some g c os h e) many in
       cc,
 )
   where
     some_is : {a b : Bool} → Some a ≡ Some b → a ≡ b
     some_is e = cc
 
--- the pin that the glance gives isn't known
-pin_unknown : (g : Glance) (c : Bool) (os : List (Option Bool)) → Glances g c os → 0 < g.rest → list_any (is_known c) os ≡ false → slice_get os g.at ≡ Some None
+-- the pin that the scan gives isn't known
+pin_unknown : (g : PinScan) (c : Bool) (os : List (Option Bool)) → IsScan g c os → 0 < g.rest → list_any (is_known c) os ≡ false → slice_get os g.at ≡ Some None
 pin_unknown g c os h some none =
     let at : FailsAt (is_known (not c)) os g.at = h.at some in
     rw (sym (known_neither c at.0 at.1.1 (none_is c os g.at at.0 none at.1.0))) at.1.0
 
-pub pull_other : (g : Glance) (c value : Bool) (os : List (Option Bool)) (known : Option Bool) → Glances g c os → junction_follows c os ≡ None → known ≡ Some value → value ≡ not c → IsPull c os known (Some (Pin g.at value))
+pub pull_other : (g : PinScan) (c value : Bool) (os : List (Option Bool)) (known : Option Bool) → IsScan g c os → junction_follows c os ≡ None → known ≡ Some value → value ≡ not c → IsPull c os known (Some (Pin g.at value))
 pull_other g c value os known h e is other =
     let some : g.rest ≢ 0 = rest_some g c os h e in
     (is, (rw other (back_other c os g.at), pin_unknown g c os h (omega arith) (follows_none c os e).0))
 
-pub pull_one : (g : Glance) (c value : Bool) (os : List (Option Bool)) (known : Option Bool) → Glances g c os → junction_follows c os ≡ None → known ≡ Some value → value ≡ c → g.rest ≡ 1 → IsPull c os known (Some (Pin g.at value))
+pub pull_one : (g : PinScan) (c value : Bool) (os : List (Option Bool)) (known : Option Bool) → IsScan g c os → junction_follows c os ≡ None → known ≡ Some value → value ≡ c → g.rest ≡ 1 → IsPull c os known (Some (Pin g.at value))
 pull_one g c value os known h e is same one =
-    (is, (rw (same, same_bool_refl c, glance_one g c os g.at h one, eq-eqb g.at g.at refl) refl, pin_unknown g c os h (omega arith) (follows_none c os e).0))
+    (is, (rw (same, same_bool_refl c, scan_one g c os g.at h one, eq-eqb g.at g.at refl) refl, pin_unknown g c os h (omega arith) (follows_none c os e).0))
 
 -- EQUAL AND DIFFERENT
-pub equal_known : (g : Glance) (os : List (Option Bool)) (known : Option Bool) → Glances g false os → g.rest ≡ 0 → known ≡ Some true → IsEqualPull os known None
+pub equal_known : (g : PinScan) (os : List (Option Bool)) (known : Option Bool) → IsScan g false os → g.rest ≡ 0 → known ≡ Some true → IsEqualPull os known None
 equal_known g os known h all is = (λ e. is, λ q o k e there. let wrong : Some true ≡ Some false = sym is ∙ k in cc)
 
-pub equal_all : (g : Glance) (os : List (Option Bool)) (known : Option Bool) → Glances g false os → g.rest ≡ 0 → known ≢ Some true → IsEqualPull os known (Some (Gate true))
-equal_all g os known h all ne = (glance_all g false os h all, ne)
+pub equal_all : (g : PinScan) (os : List (Option Bool)) (known : Option Bool) → IsScan g false os → g.rest ≡ 0 → known ≢ Some true → IsEqualPull os known (Some (Gate true))
+equal_all g os known h all ne = (scan_all g false os h all, ne)
 
-not_all : (g : Glance) (os : List (Option Bool)) → Glances g false os → g.rest ≢ 0 → IsTrue (list_all (is_known true) os) → ⊥
-not_all g os h some e = let none : list_all (is_known true) os ≡ false = glance_not_all g false os h some in cc
+not_all : (g : PinScan) (os : List (Option Bool)) → IsScan g false os → g.rest ≢ 0 → IsTrue (list_all (is_known true) os) → ⊥
+not_all g os h some e = let none : list_all (is_known true) os ≡ false = scan_not_all g false os h some in cc
 
-pub equal_open : (g : Glance) (os : List (Option Bool)) (known : Option Bool) → Glances g false os → g.rest ≢ 0 → known ≢ Some false → IsEqualPull os known None
+pub equal_open : (g : PinScan) (os : List (Option Bool)) (known : Option Bool) → IsScan g false os → g.rest ≢ 0 → known ≢ Some false → IsEqualPull os known None
 equal_open g os known h some ne = (λ e. absurd (not_all g os h some e), λ q o k e there. absurd (ne k))
 
-pub equal_any : (g : Glance) (os : List (Option Bool)) (known : Option Bool) → Glances g false os → g.rest ≢ 0 → g.any ≡ true → IsEqualPull os known None
+pub equal_any : (g : PinScan) (os : List (Option Bool)) (known : Option Bool) → IsScan g false os → g.rest ≢ 0 → g.any ≡ true → IsEqualPull os known None
 equal_any g os known h some any = (λ e. absurd (not_all g os h some e), λ q o k e there. one_left false os q o (sym h.any ∙ any) e there)
 
-pub equal_many : (g : Glance) (os : List (Option Bool)) (known : Option Bool) → Glances g false os → g.rest ≢ 0 → g.rest ≢ 1 → IsEqualPull os known None
-equal_many g os known h some many = (λ e. absurd (not_all g os h some e), λ q o k e there. let no' : all_but (is_known true) q os ≡ false = glance_many g false os q h some many in cc)
+pub equal_many : (g : PinScan) (os : List (Option Bool)) (known : Option Bool) → IsScan g false os → g.rest ≢ 0 → g.rest ≢ 1 → IsEqualPull os known None
+equal_many g os known h some many = (λ e. absurd (not_all g os h some e), λ q o k e there. let no' : all_but (is_known true) q os ≡ false = scan_many g false os q h some many in cc)
 
-pub equal_one : (g : Glance) (os : List (Option Bool)) (known : Option Bool) → Glances g false os → g.rest ≡ 1 → g.any ≡ false → known ≡ Some false → IsEqualPull os known (Some (Pin g.at false))
-equal_one g os known h one none is = (is, (glance_one g false os g.at h one ∙ eq-eqb g.at g.at refl, pin_unknown g false os h (omega arith) (sym h.any ∙ none)))
+pub equal_one : (g : PinScan) (os : List (Option Bool)) (known : Option Bool) → IsScan g false os → g.rest ≡ 1 → g.any ≡ false → known ≡ Some false → IsEqualPull os known (Some (Pin g.at false))
+equal_one g os known h one none is = (is, (scan_one g false os g.at h one ∙ eq-eqb g.at g.at refl, pin_unknown g false os h (omega arith) (sym h.any ∙ none)))

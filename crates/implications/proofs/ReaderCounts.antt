@@ -8,7 +8,7 @@ use Rattle.gate_graph.specs.Readers.{ListReaders}
 use Rattle.gate_graph.specs.Search.{IsSeen}
 use Rattle.gate_net.specs.Net.{drivers_of}
 use Rattle.implications.proofs.CountRises.{counting-append}
-use Rattle.refutation.specs.Agendas.{seen_count}
+use Rattle.refutation.specs.Worklists.{seen_count}
 use Rattle.refutation.proofs.Public.{count-clear, seen_left, seen_stays}
 use Rattle.implications.specs.Inner.Tallies.{counting}
 use Rattle.rm_base.specs.declared.numbers.NodeId.{NodeId}

@@ -11,7 +11,7 @@ use Rattle.gate_graph.specs.Search.{IsSeen}
 use Rattle.gate_net.specs.Net.{Net, Reads, drivers_of}
 use Rattle.implications.proofs.Local.{line_local}
 use Rattle.implications.proofs.Trails.{trail_tells, without-append}
-use Rattle.refutation.specs.Agendas.{seen_count}
+use Rattle.refutation.specs.Worklists.{seen_count}
 use Rattle.implications.specs.Settled.{AgreeAt, IsSettled}
 use Rattle.implications.specs.Inner.Settled.{IsFresh}
 use Rattle.implications.specs.Inner.Tallies.{AreTallied, TallyState}
@@ -144,14 +144,14 @@ tallied_by net facts facts' x fact position s b tallied = subst (λ h. AreTallie
 pub tallied_none : (net : Net) (held : Held) (position : ℕ) (s : TallyState) → s.counted ≡ replicate (length s.counted) false → AreTallied net held position s
 tallied_none net held position s none y seen = absurd (none_seen (length s.counted) y (subst (λ marks. IsSeen marks y) none seen))
 
--- THE AGENDA
-pub pending_more : (net : Net) (fault : Fault) (facts facts' : List NodeFacts) (agenda agenda' : List Bool) (y x : ℕ) (fact : Fact) → IsPendingBut net fault facts agenda y → Becomes facts facts' (with_fact (held_by facts) x fact) → Touches net agenda agenda' x → IsPendingBut net fault facts' agenda' y
-pending_more net fault facts facts' agenda agenda' y x fact pending b t z = elim (pending z) [
+-- THE WORKLIST
+pub pending_more : (net : Net) (fault : Fault) (facts facts' : List NodeFacts) (worklist worklist' : List Bool) (y x : ℕ) (fact : Fact) → IsPendingBut net fault facts worklist y → Becomes facts facts' (with_fact (held_by facts) x fact) → Touches net worklist worklist' x → IsPendingBut net fault facts' worklist' y
+pending_more net fault facts facts' worklist worklist' y x fact pending b t z = elim (pending z) [
   | inl is ↦ inl is
   | inr rest ↦ inr (elim rest [
     | inl on' ↦ inl (t.kept z on')
     | inr settled ↦ elim (eqb_tells z x) [
-      | inl same ↦ inl (subst (IsSeen agenda') (sym same.1) t.itself)
+      | inl same ↦ inl (subst (IsSeen worklist') (sym same.1) t.itself)
       | inr ne ↦ elim (find (λ d. nat_eq d x) (drivers_of net z)) [
         | inl found ↦ inl (t.readers z found.0 (subst (λ w. Reads net z found.0 w) (eqb-true found.1.0 x found.1.1.1) found.1.1.0))
         | inr none ↦ inr (still_settled net fault facts facts' x fact b z ne.1 (λ p d reads. eqb_false d x (none p d reads)) settled)
@@ -160,17 +160,17 @@ pending_more net fault facts facts' agenda agenda' y x fact pending b t z = elim
   ])
 ]
 
-pub pending_take : (net : Net) (fault : Fault) (facts : List NodeFacts) (agenda agenda' : List Bool) (d : ℕ) → IsPending net fault facts agenda → agenda' ≡ slice_set agenda d false → IsPendingBut net fault facts agenda' d
-pending_take net fault facts agenda agenda' d pending is z = elim (eqb_tells z d) [
+pub pending_take : (net : Net) (fault : Fault) (facts : List NodeFacts) (worklist worklist' : List Bool) (d : ℕ) → IsPending net fault facts worklist → worklist' ≡ slice_set worklist d false → IsPendingBut net fault facts worklist' d
+pending_take net fault facts worklist worklist' d pending is z = elim (eqb_tells z d) [
   | inl same ↦ inl same.1
-  | inr ne ↦ inr (elim (pending z) [ inl on' ↦ inl (rw is (seen_stays agenda d z on' ne.1)) | inr settled ↦ inr settled ])
+  | inr ne ↦ inr (elim (pending z) [ inl on' ↦ inl (rw is (seen_stays worklist d z on' ne.1)) | inr settled ↦ inr settled ])
 ]
 
-pub pending_settled : (net : Net) (fault : Fault) (facts : List NodeFacts) (agenda : List Bool) (y : ℕ) → IsPendingBut net fault facts agenda y → IsSettled net fault (held_by facts) y → IsPending net fault facts agenda
-pending_settled net fault facts agenda y pending settled z = elim (pending z) [ inr rest ↦ rest | inl is ↦ inr (subst (IsSettled net fault (held_by facts)) (sym is) settled) ]
+pub pending_settled : (net : Net) (fault : Fault) (facts : List NodeFacts) (worklist : List Bool) (y : ℕ) → IsPendingBut net fault facts worklist y → IsSettled net fault (held_by facts) y → IsPending net fault facts worklist
+pending_settled net fault facts worklist y pending settled z = elim (pending z) [ inr rest ↦ rest | inl is ↦ inr (subst (IsSettled net fault (held_by facts)) (sym is) settled) ]
 
-pub all_settled : (net : Net) (fault : Fault) (facts : List NodeFacts) (agenda : List Bool) → IsPending net fault facts agenda → ((z : ℕ) → IsSeen agenda z → ⊥) → (y : ℕ) → IsSettled net fault (held_by facts) y
-all_settled net fault facts agenda pending none y = elim (pending y) [ inl on' ↦ absurd (none y on') | inr settled ↦ settled ]
+pub all_settled : (net : Net) (fault : Fault) (facts : List NodeFacts) (worklist : List Bool) → IsPending net fault facts worklist → ((z : ℕ) → IsSeen worklist z → ⊥) → (y : ℕ) → IsSettled net fault (held_by facts) y
+all_settled net fault facts worklist pending none y = elim (pending y) [ inl on' ↦ absurd (none y on') | inr settled ↦ settled ]
 
 times_suc : (a b : ℕ) → suc a * b ≡ b + a * b
 times_suc a b = omega arith
@@ -178,47 +178,47 @@ times_suc a b = omega arith
 pub less_than : {a b d : ℕ} → a < b → b ≤ d → a < d
 less_than h k = omega arith
 
-pub work_less : (facts facts' : List NodeFacts) (agenda agenda' : List Bool) → suc (missing facts') ≡ missing facts → length agenda' ≡ length agenda → work facts' agenda' < work facts agenda
-work_less facts facts' agenda agenda' less same =
-    let e : missing facts * suc (length agenda) ≡ suc (length agenda) + missing facts' * suc (length agenda) = ap (λ m. m * suc (length agenda)) (sym less) ∙ times_suc (missing facts') (suc (length agenda)) in
-    let f : missing facts' * suc (length agenda') ≡ missing facts' * suc (length agenda) = ap (λ m. missing facts' * suc m) same in
-    let few : seen_count agenda' ≤ length agenda' = count_within agenda' in
+pub work_less : (facts facts' : List NodeFacts) (worklist worklist' : List Bool) → suc (missing facts') ≡ missing facts → length worklist' ≡ length worklist → work facts' worklist' < work facts worklist
+work_less facts facts' worklist worklist' less same =
+    let e : missing facts * suc (length worklist) ≡ suc (length worklist) + missing facts' * suc (length worklist) = ap (λ m. m * suc (length worklist)) (sym less) ∙ times_suc (missing facts') (suc (length worklist)) in
+    let f : missing facts' * suc (length worklist') ≡ missing facts' * suc (length worklist) = ap (λ m. missing facts' * suc m) same in
+    let few : seen_count worklist' ≤ length worklist' = count_within worklist' in
     omega arith
 
-pub work_take : (facts : List NodeFacts) (agenda agenda' : List Bool) → length agenda' ≡ length agenda → seen_count agenda' < seen_count agenda → work facts agenda' < work facts agenda
-work_take facts agenda agenda' same less =
-    let f : missing facts * suc (length agenda') ≡ missing facts * suc (length agenda) = ap (λ m. missing facts * suc m) same in
+pub work_take : (facts : List NodeFacts) (worklist worklist' : List Bool) → length worklist' ≡ length worklist → seen_count worklist' < seen_count worklist → work facts worklist' < work facts worklist
+work_take facts worklist worklist' same less =
+    let f : missing facts * suc (length worklist') ≡ missing facts * suc (length worklist) = ap (λ m. missing facts * suc m) same in
     omega arith
 
 -- WHAT THE WORK COMES TO
-pub outcome_none : (net : Net) (fault : Fault) (facts : List NodeFacts) (agenda : List Bool) (o : Option NodeId) → o ≡ None → Outcome net fault facts agenda o → IsPending net fault facts agenda × IsClashFree (held_by facts)
-outcome_none net fault facts agenda None e h = h
-outcome_none net fault facts agenda (Some x) e h = cc
+pub outcome_none : (net : Net) (fault : Fault) (facts : List NodeFacts) (worklist : List Bool) (o : Option NodeId) → o ≡ None → Outcome net fault facts worklist o → IsPending net fault facts worklist × IsClashFree (held_by facts)
+outcome_none net fault facts worklist None e h = h
+outcome_none net fault facts worklist (Some x) e h = cc
 
-pub outcome_some : (net : Net) (fault : Fault) (facts : List NodeFacts) (agenda : List Bool) (o : Option NodeId) (x : NodeId) → o ≡ Some x → Outcome net fault facts agenda o → AreOpposed (held_by facts) x.0
-outcome_some net fault facts agenda None x e h = cc
-outcome_some net fault facts agenda (Some y) x e h = let same : y ≡ x = cc in subst (λ n. AreOpposed (held_by facts) n.0) same h
+pub outcome_some : (net : Net) (fault : Fault) (facts : List NodeFacts) (worklist : List Bool) (o : Option NodeId) (x : NodeId) → o ≡ Some x → Outcome net fault facts worklist o → AreOpposed (held_by facts) x.0
+outcome_some net fault facts worklist None x e h = cc
+outcome_some net fault facts worklist (Some y) x e h = let same : y ≡ x = cc in subst (λ n. AreOpposed (held_by facts) n.0) same h
 
 -- one fact more at the node
-module _ (net : Net) (fault : Fault) (old : List NodeFacts) (old_lines : List Line) (old_trail : List (NodeId × Fact)) (old_agenda : List Bool) (facts : List NodeFacts) (lines : List Line) (trail : List (NodeId × Fact)) (agenda : List Bool) (y : ℕ) (s : Settling net fault old old_lines old_trail old_agenda facts lines trail agenda y) (f : Found) (fresh : IsFresh net fault facts f) (facts' : List NodeFacts) (lines' : List Line) (trail' : List (NodeId × Fact)) (holds : Holds facts lines facts' lines' f) (keeps : Keeps facts trail facts' trail') where
+module _ (net : Net) (fault : Fault) (old : List NodeFacts) (old_lines : List Line) (old_trail : List (NodeId × Fact)) (old_worklist : List Bool) (facts : List NodeFacts) (lines : List Line) (trail : List (NodeId × Fact)) (worklist : List Bool) (y : ℕ) (s : Settling net fault old old_lines old_trail old_worklist facts lines trail worklist y) (f : Found) (fresh : IsFresh net fault facts f) (facts' : List NodeFacts) (lines' : List Line) (trail' : List (NodeId × Fact)) (holds : Holds facts lines facts' lines' f) (keeps : Keeps facts trail facts' trail') where
   pub settled_works : Works net fault old old_lines facts' lines'
   settled_works = works_join net fault old old_lines facts lines facts' lines' s.works (works_hold net fault facts lines facts' lines' f fresh.gives holds)
 
   pub settled_keeps : Keeps old old_trail facts' trail'
   settled_keeps = keeps_join old old_trail facts trail facts' trail' s.keeps keeps
 
-  module _ (agenda' : List Bool) (t : Touches net agenda agenda' f.node.0) where
-    pub settled_smaller : work facts' agenda' < work facts agenda
-    settled_smaller = work_less facts facts' agenda agenda' holds.less t.size
+  module _ (worklist' : List Bool) (t : Touches net worklist worklist' f.node.0) where
+    pub settled_smaller : work facts' worklist' < work facts worklist
+    settled_smaller = work_less facts facts' worklist worklist' holds.less t.size
 
-    pub settled_less : work facts' agenda' ≤ work old old_agenda
-    settled_less = let before : work facts agenda ≤ work old old_agenda = s.less in omega (arith, settled_smaller)
+    pub settled_less : work facts' worklist' ≤ work old old_worklist
+    settled_less = let before : work facts worklist ≤ work old old_worklist = s.less in omega (arith, settled_smaller)
 
-    pub settling_more : (AreOpposed (held_by facts') f.node.0 → ⊥) → Settling net fault old old_lines old_trail old_agenda facts' lines' trail' agenda' y
+    pub settling_more : (AreOpposed (held_by facts') f.node.0 → ⊥) → Settling net fault old old_lines old_trail old_worklist facts' lines' trail' worklist' y
     settling_more here = record {
       works = settled_works;
       keeps = settled_keeps;
-      pending = pending_more net fault facts facts' agenda agenda' y f.node.0 f.fact s.pending holds.facts t;
+      pending = pending_more net fault facts facts' worklist worklist' y f.node.0 f.fact s.pending holds.facts t;
       free = free_more facts facts' f.node.0 f.fact s.free holds.facts here;
       less = settled_less;
       same = t.size ∙ s.same;
@@ -228,11 +228,11 @@ pub not_opposed : (b : Bool) (facts : List NodeFacts) (x : ℕ) → b ≡ false 
 not_opposed b facts x off tells opposed = let on' : b ≡ true = tells.1 opposed in cc
 
 -- one stretch of work at the node after another
-module _ (net : Net) (fault : Fault) (a : List NodeFacts) (a_lines : List Line) (a_trail : List (NodeId × Fact)) (a_agenda : List Bool) (b : List NodeFacts) (b_lines : List Line) (b_trail : List (NodeId × Fact)) (b_agenda : List Bool) (c : List NodeFacts) (c_lines : List Line) (c_trail : List (NodeId × Fact)) (c_agenda : List Bool) (y : ℕ) (first : Settling net fault a a_lines a_trail a_agenda b b_lines b_trail b_agenda y) where
-  pub less_join : work c c_agenda ≤ work b b_agenda → work c c_agenda ≤ work a a_agenda
-  less_join next = let before : work b b_agenda ≤ work a a_agenda = first.less in omega arith
+module _ (net : Net) (fault : Fault) (a : List NodeFacts) (a_lines : List Line) (a_trail : List (NodeId × Fact)) (a_worklist : List Bool) (b : List NodeFacts) (b_lines : List Line) (b_trail : List (NodeId × Fact)) (b_worklist : List Bool) (c : List NodeFacts) (c_lines : List Line) (c_trail : List (NodeId × Fact)) (c_worklist : List Bool) (y : ℕ) (first : Settling net fault a a_lines a_trail a_worklist b b_lines b_trail b_worklist y) where
+  pub less_join : work c c_worklist ≤ work b b_worklist → work c c_worklist ≤ work a a_worklist
+  less_join next = let before : work b b_worklist ≤ work a a_worklist = first.less in omega arith
 
-  pub settling_join : Settling net fault b b_lines b_trail b_agenda c c_lines c_trail c_agenda y → Settling net fault a a_lines a_trail a_agenda c c_lines c_trail c_agenda y
+  pub settling_join : Settling net fault b b_lines b_trail b_worklist c c_lines c_trail c_worklist y → Settling net fault a a_lines a_trail a_worklist c c_lines c_trail c_worklist y
   settling_join next = record {
     works = works_join net fault a a_lines b b_lines c c_lines first.works next.works;
     keeps = keeps_join a a_trail b b_trail c c_trail first.keeps next.keeps;
@@ -242,20 +242,20 @@ module _ (net : Net) (fault : Fault) (a : List NodeFacts) (a_lines : List Line) 
     same = next.same ∙ first.same;
   }
 
-  pub stops_join : (x : ℕ) → Stops net fault b b_lines b_agenda c c_lines c_agenda x → Stops net fault a a_lines a_agenda c c_lines c_agenda x
+  pub stops_join : (x : ℕ) → Stops net fault b b_lines b_worklist c c_lines c_worklist x → Stops net fault a a_lines a_worklist c c_lines c_worklist x
   stops_join x next = record {
     works = works_join net fault a a_lines b b_lines c c_lines first.works next.works;
     less = less_join next.less;
     opposed = next.opposed;
   }
 
-pub sweeps_none : (net : Net) (fault : Fault) (a : List NodeFacts) (a_lines : List Line) (a_trail : List (NodeId × Fact)) (a_agenda : List Bool) (b : List NodeFacts) (b_lines : List Line) (b_trail : List (NodeId × Fact)) (b_agenda : List Bool) (y : ℕ) (o : Option NodeId) → o ≡ None → Sweeps net fault a a_lines a_trail a_agenda b b_lines b_trail b_agenda y o → Settling net fault a a_lines a_trail a_agenda b b_lines b_trail b_agenda y
-sweeps_none net fault a a_lines a_trail a_agenda b b_lines b_trail b_agenda y None e h = h
-sweeps_none net fault a a_lines a_trail a_agenda b b_lines b_trail b_agenda y (Some x) e h = cc
+pub sweeps_none : (net : Net) (fault : Fault) (a : List NodeFacts) (a_lines : List Line) (a_trail : List (NodeId × Fact)) (a_worklist : List Bool) (b : List NodeFacts) (b_lines : List Line) (b_trail : List (NodeId × Fact)) (b_worklist : List Bool) (y : ℕ) (o : Option NodeId) → o ≡ None → Sweeps net fault a a_lines a_trail a_worklist b b_lines b_trail b_worklist y o → Settling net fault a a_lines a_trail a_worklist b b_lines b_trail b_worklist y
+sweeps_none net fault a a_lines a_trail a_worklist b b_lines b_trail b_worklist y None e h = h
+sweeps_none net fault a a_lines a_trail a_worklist b b_lines b_trail b_worklist y (Some x) e h = cc
 
-pub sweeps_some : (net : Net) (fault : Fault) (a : List NodeFacts) (a_lines : List Line) (a_trail : List (NodeId × Fact)) (a_agenda : List Bool) (b : List NodeFacts) (b_lines : List Line) (b_trail : List (NodeId × Fact)) (b_agenda : List Bool) (y : ℕ) (o : Option NodeId) (x : NodeId) → o ≡ Some x → Sweeps net fault a a_lines a_trail a_agenda b b_lines b_trail b_agenda y o → Stops net fault a a_lines a_agenda b b_lines b_agenda x.0
-sweeps_some net fault a a_lines a_trail a_agenda b b_lines b_trail b_agenda y None x e h = cc
-sweeps_some net fault a a_lines a_trail a_agenda b b_lines b_trail b_agenda y (Some z) x e h = let same : z ≡ x = cc in subst (λ (n : NodeId). Stops net fault a a_lines a_agenda b b_lines b_agenda n.0) same h
+pub sweeps_some : (net : Net) (fault : Fault) (a : List NodeFacts) (a_lines : List Line) (a_trail : List (NodeId × Fact)) (a_worklist : List Bool) (b : List NodeFacts) (b_lines : List Line) (b_trail : List (NodeId × Fact)) (b_worklist : List Bool) (y : ℕ) (o : Option NodeId) (x : NodeId) → o ≡ Some x → Sweeps net fault a a_lines a_trail a_worklist b b_lines b_trail b_worklist y o → Stops net fault a a_lines a_worklist b b_lines b_worklist x.0
+sweeps_some net fault a a_lines a_trail a_worklist b b_lines b_trail b_worklist y None x e h = cc
+sweeps_some net fault a a_lines a_trail a_worklist b b_lines b_trail b_worklist y (Some z) x e h = let same : z ≡ x = cc in subst (λ (n : NodeId). Stops net fault a a_lines a_worklist b b_lines b_worklist n.0) same h
 
 pub fresh_within : (net : Net) (fault : Fault) (old : List NodeFacts) (old_trail : List (NodeId × Fact)) (facts : List NodeFacts) (trail : List (NodeId × Fact)) (f : Found) → length net.nodes ≤ length old → Keeps old old_trail facts trail → IsFresh net fault facts f → f.node.0 < length facts
 fresh_within net fault old old_trail facts trail f size k fresh =

@@ -1,4 +1,4 @@
--- A fact that is added, with its node and its readers put on the agenda.
+-- A fact that is added, with its node and its readers put on the worklist.
 use Rattle.std.proofs.Common.{Bool, List, inl, inr, subst, sym, ℕ, ◌≡◌}
 use Rattle.gate_graph.specs.Search.{IsSeen}
 use Rattle.gate_net.specs.Net.{IsWellFormed, Net}
@@ -18,10 +18,10 @@ use Rattle.rm_base.specs.declared.numbers.Fault.{Fault}
 use Rattle.rm_base.specs.declared.numbers.NodeId.{NodeId}
 use Rattle.std.specs.Prelude.{false}
 
-pub pending_touched : (net : Net) (fault : Fault) (facts facts' : List NodeFacts) (agenda agenda' : List Bool) (x : ℕ) (fact : Fact) → Becomes facts facts' (with_fact (held_by facts) x fact) → Touches net agenda agenda' x → StaysPending net fault facts agenda facts' agenda'
-pending_touched net fault facts facts' agenda agenda' x fact is t pending z =
-    elim (pending_more net fault facts facts' agenda agenda' x x fact (λ y. inr (pending y)) is t z) [
-      | inl same ↦ inl (subst (IsSeen agenda') (sym same) t.itself)
+pub pending_touched : (net : Net) (fault : Fault) (facts facts' : List NodeFacts) (worklist worklist' : List Bool) (x : ℕ) (fact : Fact) → Becomes facts facts' (with_fact (held_by facts) x fact) → Touches net worklist worklist' x → StaysPending net fault facts worklist facts' worklist'
+pending_touched net fault facts facts' worklist worklist' x fact is t pending z =
+    elim (pending_more net fault facts facts' worklist worklist' x x fact (λ y. inr (pending y)) is t z) [
+      | inl same ↦ inl (subst (IsSeen worklist') (sym same) t.itself)
       | inr rest ↦ rest
     ]
 

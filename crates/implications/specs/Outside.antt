@@ -54,10 +54,10 @@ pub record HoldsOutside (net : Net) (fault : Fault) (y : ℕ) (before after : Li
   pub facts : (x : ℕ) (fact : Fact) → IsTrue (held_by after x fact) ↔ (IsTrue (held_by before x fact) ⊎ Concludes net fault none_held (Out (node_of y)) x fact)
   pub size : length after ≡ length before
 
--- of the numbers below this one, what isn't reached is held, and gates without pins are on the agenda
-pub record BeginsBelow (net : Net) (fault : Fault) (number : ℕ) (facts : List NodeFacts) (agenda : List Bool) : Type 0 where
+-- of the numbers below this one, what isn't reached is held, and gates without pins are on the worklist
+pub record BeginsBelow (net : Net) (fault : Fault) (number : ℕ) (facts : List NodeFacts) (worklist : List Bool) : Type 0 where
   pub outside : (x : ℕ) (fact : Fact) → IsTrue (held_by facts x fact) ↔ ((x < number) × Concludes net fault none_held (Out (node_of x)) x fact)
-  pub pinless : (y : ℕ) → y < number → IsPinless net y → IsSeen agenda y
+  pub pinless : (y : ℕ) → y < number → IsPinless net y → IsSeen worklist y
   pub size : length facts ≡ length net.nodes
 
 -- lines that were written lead to what isn't reached of the numbers below this one

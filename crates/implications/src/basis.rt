@@ -8,7 +8,7 @@ ghost use Rattle.implications.specs.Inner.Bases.{AreAllOn, IsAmongNumbers, PutsB
 
 use crate::beginning::is_pinless;
 use gate_graph::Graph;
-use refutation::agenda::Agenda;
+use refutation::worklist::Worklist;
 use refutation::{Fact, FactSet};
 use rm_base::{NoMemory, NodeId};
 use std::alloc::Global;
@@ -20,7 +20,7 @@ use std::alloc::Global;
 pub struct Basis {
     pub numbers: u32,
     pub facts: FactSet,
-    pub taken: Agenda,
+    pub taken: Worklist,
     pub pinless: Vec<NodeId>,
 }
 
@@ -60,7 +60,7 @@ fn fit_all(graph: &Graph, facts: &mut FactSet, pinless: &mut Vec<NodeId>) -> Res
 }
 
 /// The node isn't equal any more.
-pub(crate) fn take_equal(facts: &mut FactSet, taken: &mut Agenda, node: NodeId)
+pub(crate) fn take_equal(facts: &mut FactSet, taken: &mut Worklist, node: NodeId)
     requires facts { node.0 < length facts.old }
     requires taken { node.0 < length taken.old }
     ensures { TakesEquals (λ (z : ℕ). z ≡ node.0) facts.old taken.old facts.new taken.new }
@@ -70,7 +70,7 @@ pub(crate) fn take_equal(facts: &mut FactSet, taken: &mut Agenda, node: NodeId)
 }
 
 /// The nodes of the list aren't equal any more.
-pub(crate) fn take_equals(numbers: &[u32], facts: &mut FactSet, taken: &mut Agenda)
+pub(crate) fn take_equals(numbers: &[u32], facts: &mut FactSet, taken: &mut Worklist)
     requires facts { AreBelow numbers.now (length facts.old) }
     requires taken { AreBelow numbers.now (length taken.old) }
     ensures { TakesEquals (IsAmongNumbers numbers.now) facts.old taken.old facts.new taken.new }
@@ -81,7 +81,7 @@ pub(crate) fn take_equals(numbers: &[u32], facts: &mut FactSet, taken: &mut Agen
 }
 
 /// The nodes that were taken are equal again.
-pub(crate) fn put_back(facts: &mut FactSet, taken: &mut Agenda)
+pub(crate) fn put_back(facts: &mut FactSet, taken: &mut Worklist)
     requires { length taken.old ≤ length facts.old }
     ensures held { PutsBack taken.old (held_by facts.old) (held_by facts.new) }
     ensures none { taken.new ≡ replicate (length taken.old) false }
@@ -92,15 +92,15 @@ pub(crate) fn put_back(facts: &mut FactSet, taken: &mut Agenda)
     }
 }
 
-/// Puts the gates without pins on the agenda.
-pub(crate) fn list_all(nodes: &[NodeId], agenda: &mut Agenda)
-    requires { (k : ℕ) (n : NodeId) → slice_get nodes.now k ≡ Some n → n.0 < length agenda.old }
-    ensures all { AreAllOn nodes.now agenda.new }
-    ensures kept { (z : ℕ) → IsSeen agenda.old z → IsSeen agenda.new z }
-    ensures size { length agenda.new ≡ length agenda.old }
+/// Puts the gates without pins on the worklist.
+pub(crate) fn list_all(nodes: &[NodeId], worklist: &mut Worklist)
+    requires { (k : ℕ) (n : NodeId) → slice_get nodes.now k ≡ Some n → n.0 < length worklist.old }
+    ensures all { AreAllOn nodes.now worklist.new }
+    ensures kept { (z : ℕ) → IsSeen worklist.old z → IsSeen worklist.new z }
+    ensures size { length worklist.new ≡ length worklist.old }
 {
     for node in nodes {
-        agenda.add(*node);
+        worklist.add(*node);
     }
 }
 
@@ -114,7 +114,7 @@ impl Basis {
         Ok(Basis {
             numbers,
             facts: FactSet::for_numbers(alloc, numbers)?,
-            taken: Agenda::new(alloc, numbers)?,
+            taken: Worklist::new(alloc, numbers)?,
             pinless: Vec::new(alloc),
         })
     }

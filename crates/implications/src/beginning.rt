@@ -9,10 +9,10 @@ ghost use Rattle.refutation.specs.declared.items.Item.{Item};
 ghost use Rattle.implications.specs.Inner.Working.{IsPending};
 
 use gate_graph::{Graph, Question};
-use refutation::agenda::Agenda;
 use refutation::pins::is_gate;
 use refutation::place_lines::line_out_marked;
 use refutation::site::Site;
+use refutation::worklist::Worklist;
 use refutation::{FactSet, Item, Line, TreeBuilder};
 use rm_base::{NoMemory, NodeId, ONE, ZERO};
 use std::alloc::Global;
@@ -30,15 +30,15 @@ pub(crate) fn is_pinless(graph: &Graph, node: NodeId) -> bool
     graph.driver(node, 0).is_none()
 }
 
-// Puts the node on the agenda, where it is a gate without pins.
-fn list_pinless(graph: &Graph, agenda: &mut Agenda, node: NodeId)
-    requires node { node.0 < length agenda.old }
-    ensures listed { IsPinless (net_of graph.now) node.0 → IsSeen agenda.new node.0 }
-    ensures kept { (z : ℕ) → IsSeen agenda.old z → IsSeen agenda.new z }
-    ensures size { length agenda.new ≡ length agenda.old }
+// Puts the node on the worklist, where it is a gate without pins.
+fn list_pinless(graph: &Graph, worklist: &mut Worklist, node: NodeId)
+    requires node { node.0 < length worklist.old }
+    ensures listed { IsPinless (net_of graph.now) node.0 → IsSeen worklist.new node.0 }
+    ensures kept { (z : ℕ) → IsSeen worklist.old z → IsSeen worklist.new z }
+    ensures size { length worklist.new ≡ length worklist.old }
 {
     if is_pinless(graph, node) {
-        agenda.add(node);
+        worklist.add(node);
     }
 }
 
@@ -54,46 +54,46 @@ fn hold_outside(question: &Question<'_>, site: &Site, facts: &mut FactSet, node:
     facts.insert(outside, fact);
 }
 
-// Holds that of all nodes, and puts the gates without pins on the agenda.
+// Holds that of all nodes, and puts the gates without pins on the worklist.
 fn hold_all_outside(
     alloc: Global,
     question: &Question<'_>,
     site: &Site,
-    agenda: &mut Agenda,
+    worklist: &mut Worklist,
 ) -> Result<FactSet, NoMemory>
     requires site { IsSiteOf (net_of question.now.graph.now) question.now.fault.gate.0 site.now }
-    requires agenda { length (net_of question.now.graph.now).nodes ≤ length agenda.old }
-    ensures begins { IfOk result (λ facts. BeginsBelow (net_of question.now.graph.now) question.now.fault (length (net_of question.now.graph.now).nodes) facts agenda.new) }
-    ensures size { length agenda.new ≡ length agenda.old }
+    requires worklist { length (net_of question.now.graph.now).nodes ≤ length worklist.old }
+    ensures begins { IfOk result (λ facts. BeginsBelow (net_of question.now.graph.now) question.now.fault (length (net_of question.now.graph.now).nodes) facts worklist.new) }
+    ensures size { length worklist.new ≡ length worklist.old }
 {
     let mut facts = FactSet::new(alloc, question.graph)?;
     for number in 0..question.graph.node_bound() {
         let node = NodeId(number);
         hold_outside(question, site, &mut facts, node);
-        list_pinless(question.graph, agenda, node);
+        list_pinless(question.graph, worklist, node);
     }
     Ok(facts)
 }
 
-// The facts with which a close begins, and on the agenda each node that isn't settled by them.
+// The facts with which a close begins, and on the worklist each node that isn't settled by them.
 pub(crate) fn begin(
     alloc: Global,
     question: &Question<'_>,
     site: &Site,
-    agenda: &mut Agenda,
+    worklist: &mut Worklist,
 ) -> Result<FactSet, NoMemory>
     requires site { IsSiteOf (net_of question.now.graph.now) question.now.fault.gate.0 site.now }
-    requires agenda { length (net_of question.now.graph.now).nodes ≤ length agenda.old }
+    requires worklist { length (net_of question.now.graph.now).nodes ≤ length worklist.old }
     ensures outside { IfOk result (λ facts. AreOutside (net_of question.now.graph.now) question.now.fault (held_by facts)) }
-    ensures pending { IfOk result (λ facts. IsPending (net_of question.now.graph.now) question.now.fault facts agenda.new) }
+    ensures pending { IfOk result (λ facts. IsPending (net_of question.now.graph.now) question.now.fault facts worklist.new) }
     ensures facts { IfOk result (λ facts. length facts ≡ length (net_of question.now.graph.now).nodes) }
-    ensures size { length agenda.new ≡ length agenda.old }
+    ensures size { length worklist.new ≡ length worklist.old }
 {
     question.graph.well_formed();
-    let facts = hold_all_outside(alloc, question, site, agenda)?;
-    agenda.add(ZERO);
-    agenda.add(ONE);
-    agenda.add(question.fault.gate);
+    let facts = hold_all_outside(alloc, question, site, worklist)?;
+    worklist.add(ZERO);
+    worklist.add(ONE);
+    worklist.add(question.fault.gate);
     Ok(facts)
 }
 

@@ -22,69 +22,69 @@ use crate::settling::work_off;
 use crate::state::Engine;
 use crate::tallies::Tallies;
 use gate_graph::Question;
-use refutation::agenda::Agenda;
 use refutation::site::Site;
+use refutation::worklist::Worklist;
 use refutation::{Fact, FactSet, Item, Line, Tree, TreeBuilder};
 use rm_base::{NoMemory, NodeId};
 use std::alloc::Global;
 
 /// Adds all to which lines lead, or up to a clash, whose node is given; what isn't reached is held already, and each node
-/// is on the agenda or settled. The stuck pin's driver comes last here, and so its readers first on the agenda.
+/// is on the worklist or settled. The stuck pin's driver comes last here, and so its readers first on the worklist.
 pub(crate) fn add_all_lines(
     question: &Question<'_>,
     facts: &mut FactSet,
     log: &mut Log,
-    agenda: &mut Agenda,
+    worklist: &mut Worklist,
     tallies: &mut Tallies,
 ) -> Result<Option<NodeId>, NoMemory>
     requires ready { IsReady (net_of question.now.graph.now) question.now.fault facts.old }
     requires free { IsClashFree (held_by facts.old) }
     requires outside { AreDoneOutside (net_of question.now.graph.now) question.now.fault facts.old }
-    requires pending { IsPending (net_of question.now.graph.now) question.now.fault facts.old agenda.old }
-    requires agenda { length (net_of question.now.graph.now).nodes ≤ length agenda.old }
+    requires pending { IsPending (net_of question.now.graph.now) question.now.fault facts.old worklist.old }
+    requires worklist { length (net_of question.now.graph.now).nodes ≤ length worklist.old }
     requires room { length (net_of question.now.graph.now).nodes ≤ length tallies.old.counted }
     requires tallied { AreTallied (net_of question.now.graph.now) (held_by facts.old) question.now.fault.position tallies.old }
     ensures works { OnOk result (Works (net_of question.now.graph.now) question.now.fault facts.old log.old.lines.items facts.new log.new.lines.items) }
     ensures keeps { Keeps facts.old log.old.trail.items facts.new log.new.trail.items }
     ensures closes { IfOk result (Closes (net_of question.now.graph.now) question.now.fault facts.new) }
-    ensures agenda { length agenda.new ≡ length agenda.old }
+    ensures worklist { length worklist.new ≡ length worklist.old }
     ensures room { length tallies.new.counted ≡ length tallies.old.counted }
 {
-    if let Some(clash) = give_on_chain(question, facts, log, agenda, tallies)? {
+    if let Some(clash) = give_on_chain(question, facts, log, worklist, tallies)? {
         return Ok(Some(clash));
     }
-    if let Some(clash) = give_at_fault(question, facts, log, agenda, tallies)? {
+    if let Some(clash) = give_at_fault(question, facts, log, worklist, tallies)? {
         return Ok(Some(clash));
     }
-    work_off(question, facts, log, agenda, tallies)
+    work_off(question, facts, log, worklist, tallies)
 }
 
-// The same from any facts, over an agenda on which all nodes are put.
+// The same from any facts, over a worklist on which all nodes are put.
 fn grow_all_lines(
     question: &Question<'_>,
     site: &Site,
     facts: &mut FactSet,
     log: &mut Log,
-    agenda: &mut Agenda,
+    worklist: &mut Worklist,
     tallies: &mut Tallies,
 ) -> Result<Option<NodeId>, NoMemory>
     requires ready { IsReady (net_of question.now.graph.now) question.now.fault facts.old }
     requires free { IsClashFree (held_by facts.old) }
     requires site { IsSiteOf (net_of question.now.graph.now) question.now.fault.gate.0 site.now }
-    requires agenda { length (net_of question.now.graph.now).nodes ≤ length agenda.old }
+    requires worklist { length (net_of question.now.graph.now).nodes ≤ length worklist.old }
     requires room { length (net_of question.now.graph.now).nodes ≤ length tallies.old.counted }
     requires uncounted { tallies.old.counted ≡ replicate (length tallies.old.counted) false }
     ensures works { OnOk result (Works (net_of question.now.graph.now) question.now.fault facts.old log.old.lines.items facts.new log.new.lines.items) }
     ensures keeps { Keeps facts.old log.old.trail.items facts.new log.new.trail.items }
     ensures closes { IfOk result (Closes (net_of question.now.graph.now) question.now.fault facts.new) }
-    ensures agenda { length agenda.new ≡ length agenda.old }
+    ensures worklist { length worklist.new ≡ length worklist.old }
     ensures room { length tallies.new.counted ≡ length tallies.old.counted }
 {
-    if let Some(clash) = give_outside(question, site, facts, log, agenda, tallies)? {
+    if let Some(clash) = give_outside(question, site, facts, log, worklist, tallies)? {
         return Ok(Some(clash));
     }
-    agenda.add_all(question.graph.node_bound());
-    add_all_lines(question, facts, log, agenda, tallies)
+    worklist.add_all(question.graph.node_bound());
+    add_all_lines(question, facts, log, worklist, tallies)
 }
 
 // The tree that was begun, with the lines, ended by a clash.
@@ -105,22 +105,22 @@ fn close_none(
     question: &Question<'_>,
     site: &Site,
     log: &mut Log,
-    agenda: &mut Agenda,
+    worklist: &mut Worklist,
     tallies: &mut Tallies,
 ) -> Result<Closed, NoMemory>
     requires site { IsSiteOf (net_of question.now.graph.now) question.now.fault.gate.0 site.now }
-    requires agenda { length (net_of question.now.graph.now).nodes ≤ length agenda.old }
+    requires worklist { length (net_of question.now.graph.now).nodes ≤ length worklist.old }
     requires room { length (net_of question.now.graph.now).nodes ≤ length tallies.old.counted }
     requires uncounted { tallies.old.counted ≡ replicate (length tallies.old.counted) false }
     requires lines { log.old.lines.items ≡ [] }
     ensures closing { IfOk result (IsClosing (net_of question.now.graph.now) question.now.fault log.new.lines.items) }
     ensures trail { IsLonger log.old.trail.items log.new.trail.items }
-    ensures agenda { length agenda.new ≡ length agenda.old }
+    ensures worklist { length worklist.new ≡ length worklist.old }
     ensures room { length tallies.new.counted ≡ length tallies.old.counted }
 {
     question.graph.well_formed();
-    let mut held = begin(alloc, question, site, agenda)?;
-    match add_all_lines(question, &mut held, log, agenda, tallies)? {
+    let mut held = begin(alloc, question, site, worklist)?;
+    match add_all_lines(question, &mut held, log, worklist, tallies)? {
         Some(node) => {
             let mut tree = TreeBuilder::new(alloc);
             write_outside(question, site, &mut tree)?;
@@ -137,23 +137,23 @@ fn close_facts(
     question: &Question<'_>,
     mut facts: FactSet,
     log: &mut Log,
-    agenda: &mut Agenda,
+    worklist: &mut Worklist,
     tallies: &mut Tallies,
     site: &Site,
 ) -> Result<Closed, NoMemory>
     requires ready { IsReady (net_of question.now.graph.now) question.now.fault facts }
     requires free { IsClashFree (held_by facts) }
     requires site { IsSiteOf (net_of question.now.graph.now) question.now.fault.gate.0 site.now }
-    requires agenda { length (net_of question.now.graph.now).nodes ≤ length agenda.old }
+    requires worklist { length (net_of question.now.graph.now).nodes ≤ length worklist.old }
     requires room { length (net_of question.now.graph.now).nodes ≤ length tallies.old.counted }
     requires uncounted { tallies.old.counted ≡ replicate (length tallies.old.counted) false }
     requires lines { log.old.lines.items ≡ [] }
     ensures grown { IfOk result (IsGrown (net_of question.now.graph.now) question.now.fault (held_by facts) log.new.lines.items) }
     ensures trail { IsLonger log.old.trail.items log.new.trail.items }
-    ensures agenda { length agenda.new ≡ length agenda.old }
+    ensures worklist { length worklist.new ≡ length worklist.old }
     ensures room { length tallies.new.counted ≡ length tallies.old.counted }
 {
-    match grow_all_lines(question, site, &mut facts, log, agenda, tallies)? {
+    match grow_all_lines(question, site, &mut facts, log, worklist, tallies)? {
         Some(node) => {
             let tree = end_tree(TreeBuilder::new(alloc), log.lines.as_slice(), node)?;
             Ok(Closed::Clash(tree))
@@ -181,12 +181,12 @@ impl Engine {
             question,
             facts,
             &mut self.log,
-            &mut self.agenda,
+            &mut self.worklist,
             &mut self.tallies,
             &self.site,
         );
         self.log.trail.truncate(mark);
-        self.agenda.clear();
+        self.worklist.clear();
         self.tallies.clear();
         match answer {
             Ok(closed) => Ok(closed),
@@ -215,11 +215,11 @@ impl Engine {
             question,
             &self.site,
             &mut self.log,
-            &mut self.agenda,
+            &mut self.worklist,
             &mut self.tallies,
         );
         self.log.trail.truncate(mark);
-        self.agenda.clear();
+        self.worklist.clear();
         self.tallies.clear();
         match answer {
             Ok(closed) => Ok(closed),

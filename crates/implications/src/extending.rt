@@ -16,7 +16,7 @@ use crate::settling::work_off;
 use crate::state::Engine;
 use crate::tallies::{Tallies, touch};
 use gate_graph::Question;
-use refutation::agenda::Agenda;
+use refutation::worklist::Worklist;
 use refutation::{Fact, FactSet};
 use rm_base::{NoMemory, NodeId};
 
@@ -43,18 +43,18 @@ pub(crate) fn take_off(trail: &mut Vec<(NodeId, Fact)>, facts: &mut FactSet, mar
     }
 }
 
-// Adds a good value of the node, and what follows from it, over an agenda with nothing on.
+// Adds a good value of the node, and what follows from it, over a worklist with nothing on.
 fn add_good(
     question: &Question<'_>,
     facts: &mut FactSet,
     log: &mut Log,
-    agenda: &mut Agenda,
+    worklist: &mut Worklist,
     tallies: &mut Tallies,
     node: NodeId,
     value: bool,
 ) -> Result<Option<NodeId>, NoMemory>
     requires ready { IsReady (net_of question.now.graph.now) question.now.fault facts.old }
-    requires agenda { length (net_of question.now.graph.now).nodes ≤ length agenda.old }
+    requires worklist { length (net_of question.now.graph.now).nodes ≤ length worklist.old }
     requires room { length (net_of question.now.graph.now).nodes ≤ length tallies.old.counted }
     requires uncounted { tallies.old.counted ≡ replicate (length tallies.old.counted) false }
     requires closed { IsClosedUnderLines (net_of question.now.graph.now) question.now.fault (held_by facts.old) }
@@ -65,15 +65,15 @@ fn add_good(
     ensures extended { IfOk result (IsExtended (net_of question.now.graph.now) question.now.fault (with_fact (held_by facts.old) node.0 (Fact.Good value)) log.new.lines.items facts.new) }
     ensures fewer { IfOk result (λ _. missing facts.new < missing facts.old) }
     ensures keeps { Keeps facts.old log.old.trail.items facts.new log.new.trail.items }
-    ensures agenda { length agenda.new ≡ length agenda.old }
+    ensures worklist { length worklist.new ≡ length worklist.old }
     ensures room { length tallies.new.counted ≡ length tallies.old.counted }
 {
     let fact = Fact::Good(value);
     log.trail.push((node, fact))?;
     log.work_done = log.work_done.saturating_add(1);
-    touch(question, facts, agenda, tallies, node, fact);
+    touch(question, facts, worklist, tallies, node, fact);
     facts.insert(node, fact);
-    work_off(question, facts, log, agenda, tallies)
+    work_off(question, facts, log, worklist, tallies)
 }
 
 impl Engine {
@@ -110,12 +110,12 @@ impl Engine {
             question,
             facts,
             &mut self.log,
-            &mut self.agenda,
+            &mut self.worklist,
             &mut self.tallies,
             node,
             value,
         );
-        self.agenda.clear();
+        self.worklist.clear();
         self.tallies.clear();
         match answer {
             Ok(found) => Ok(found),

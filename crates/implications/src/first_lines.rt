@@ -16,10 +16,10 @@ use crate::log::Log;
 use crate::settling::add_found;
 use crate::tallies::Tallies;
 use gate_graph::Question;
-use refutation::agenda::Agenda;
 use refutation::chains::next_in_chain;
 use refutation::place_lines::{line_act, line_out_marked, line_site};
 use refutation::site::Site;
+use refutation::worklist::Worklist;
 use refutation::{Fact, FactSet, Line};
 use rm_base::{NoMemory, NodeId};
 
@@ -28,14 +28,14 @@ fn give(
     question: &Question<'_>,
     facts: &mut FactSet,
     log: &mut Log,
-    agenda: &mut Agenda,
+    worklist: &mut Worklist,
     tallies: &mut Tallies,
     line: Line,
     given: Option<(NodeId, Fact)>,
 ) -> Result<Option<NodeId>, NoMemory>
     requires ready { IsReady (net_of question.now.graph.now) question.now.fault facts.old }
     requires free { IsClashFree (held_by facts.old) }
-    requires agenda { length (net_of question.now.graph.now).nodes ≤ length agenda.old }
+    requires worklist { length (net_of question.now.graph.now).nodes ≤ length worklist.old }
     requires room { length (net_of question.now.graph.now).nodes ≤ length tallies.old.counted }
     requires tallied { AreTallied (net_of question.now.graph.now) (held_by facts.old) question.now.fault.position tallies.old }
     requires first { place_of line ≡ None }
@@ -43,9 +43,9 @@ fn give(
     ensures works { OnOk result (Works (net_of question.now.graph.now) question.now.fault facts.old log.old.lines.items facts.new log.new.lines.items) }
     ensures keeps { Keeps facts.old log.old.trail.items facts.new log.new.trail.items }
     ensures gives { IfOk result (Gives facts.new (IsDone (net_of question.now.graph.now) question.now.fault facts.new line)) }
-    ensures pending { OnOk result (StaysPending (net_of question.now.graph.now) question.now.fault facts.old agenda.old facts.new agenda.new) }
+    ensures pending { OnOk result (StaysPending (net_of question.now.graph.now) question.now.fault facts.old worklist.old facts.new worklist.new) }
     ensures tallied { OnOk result (AreTallied (net_of question.now.graph.now) (held_by facts.new) question.now.fault.position tallies.new) }
-    ensures size { length agenda.new ≡ length agenda.old }
+    ensures size { length worklist.new ≡ length worklist.old }
     ensures room { length tallies.new.counted ≡ length tallies.old.counted }
 {
     let Some((node, fact)) = given else {
@@ -55,7 +55,7 @@ fn give(
         return Ok(None);
     }
     let found = Found { line, node, fact };
-    if add_found(question, facts, log, agenda, tallies, found)? {
+    if add_found(question, facts, log, worklist, tallies, found)? {
         return Ok(Some(node));
     }
     Ok(None)
@@ -66,28 +66,28 @@ pub(crate) fn give_at_fault(
     question: &Question<'_>,
     facts: &mut FactSet,
     log: &mut Log,
-    agenda: &mut Agenda,
+    worklist: &mut Worklist,
     tallies: &mut Tallies,
 ) -> Result<Option<NodeId>, NoMemory>
     requires ready { IsReady (net_of question.now.graph.now) question.now.fault facts.old }
     requires free { IsClashFree (held_by facts.old) }
-    requires agenda { length (net_of question.now.graph.now).nodes ≤ length agenda.old }
+    requires worklist { length (net_of question.now.graph.now).nodes ≤ length worklist.old }
     requires room { length (net_of question.now.graph.now).nodes ≤ length tallies.old.counted }
     requires tallied { AreTallied (net_of question.now.graph.now) (held_by facts.old) question.now.fault.position tallies.old }
     ensures works { OnOk result (Works (net_of question.now.graph.now) question.now.fault facts.old log.old.lines.items facts.new log.new.lines.items) }
     ensures keeps { Keeps facts.old log.old.trail.items facts.new log.new.trail.items }
     ensures gives { IfOk result (Gives facts.new (AreDoneAtFault (net_of question.now.graph.now) question.now.fault facts.new)) }
-    ensures pending { OnOk result (StaysPending (net_of question.now.graph.now) question.now.fault facts.old agenda.old facts.new agenda.new) }
+    ensures pending { OnOk result (StaysPending (net_of question.now.graph.now) question.now.fault facts.old worklist.old facts.new worklist.new) }
     ensures tallied { OnOk result (AreTallied (net_of question.now.graph.now) (held_by facts.new) question.now.fault.position tallies.new) }
-    ensures size { length agenda.new ≡ length agenda.old }
+    ensures size { length worklist.new ≡ length worklist.old }
     ensures room { length tallies.new.counted ≡ length tallies.old.counted }
 {
     let given = line_act(question);
-    if let Some(clash) = give(question, facts, log, agenda, tallies, Line::Act, given)? {
+    if let Some(clash) = give(question, facts, log, worklist, tallies, Line::Act, given)? {
         return Ok(Some(clash));
     }
     let given = line_site(&question.fault);
-    give(question, facts, log, agenda, tallies, Line::Site, given)
+    give(question, facts, log, worklist, tallies, Line::Site, given)
 }
 
 // The lines of the chain that begins with the faulty gate, in its order.
@@ -95,27 +95,27 @@ pub(crate) fn give_on_chain(
     question: &Question<'_>,
     facts: &mut FactSet,
     log: &mut Log,
-    agenda: &mut Agenda,
+    worklist: &mut Worklist,
     tallies: &mut Tallies,
 ) -> Result<Option<NodeId>, NoMemory>
     requires ready { IsReady (net_of question.now.graph.now) question.now.fault facts.old }
     requires free { IsClashFree (held_by facts.old) }
-    requires agenda { length (net_of question.now.graph.now).nodes ≤ length agenda.old }
+    requires worklist { length (net_of question.now.graph.now).nodes ≤ length worklist.old }
     requires room { length (net_of question.now.graph.now).nodes ≤ length tallies.old.counted }
     requires tallied { AreTallied (net_of question.now.graph.now) (held_by facts.old) question.now.fault.position tallies.old }
     ensures works { OnOk result (Works (net_of question.now.graph.now) question.now.fault facts.old log.old.lines.items facts.new log.new.lines.items) }
     ensures keeps { Keeps facts.old log.old.trail.items facts.new log.new.trail.items }
     ensures gives { IfOk result (Gives facts.new (AreDoneOnChain (net_of question.now.graph.now) question.now.fault facts.new)) }
-    ensures pending { OnOk result (StaysPending (net_of question.now.graph.now) question.now.fault facts.old agenda.old facts.new agenda.new) }
+    ensures pending { OnOk result (StaysPending (net_of question.now.graph.now) question.now.fault facts.old worklist.old facts.new worklist.new) }
     ensures tallied { OnOk result (AreTallied (net_of question.now.graph.now) (held_by facts.new) question.now.fault.position tallies.new) }
-    ensures size { length agenda.new ≡ length agenda.old }
+    ensures size { length worklist.new ≡ length worklist.old }
     ensures room { length tallies.new.counted ≡ length tallies.old.counted }
 {
     let mut at = question.fault.gate;
     for _step in 0..question.graph.node_bound() {
         let line = Line::Chain { node: at };
         let given = Some((at, Fact::Differs));
-        if let Some(clash) = give(question, facts, log, agenda, tallies, line, given)? {
+        if let Some(clash) = give(question, facts, log, worklist, tallies, line, given)? {
             return Ok(Some(clash));
         }
         let Some(next) = next_in_chain(question.graph, at) else {
@@ -132,27 +132,27 @@ pub(crate) fn give_outside(
     site: &Site,
     facts: &mut FactSet,
     log: &mut Log,
-    agenda: &mut Agenda,
+    worklist: &mut Worklist,
     tallies: &mut Tallies,
 ) -> Result<Option<NodeId>, NoMemory>
     requires ready { IsReady (net_of question.now.graph.now) question.now.fault facts.old }
     requires free { IsClashFree (held_by facts.old) }
     requires site { IsSiteOf (net_of question.now.graph.now) question.now.fault.gate.0 site.now }
-    requires agenda { length (net_of question.now.graph.now).nodes ≤ length agenda.old }
+    requires worklist { length (net_of question.now.graph.now).nodes ≤ length worklist.old }
     requires room { length (net_of question.now.graph.now).nodes ≤ length tallies.old.counted }
     requires tallied { AreTallied (net_of question.now.graph.now) (held_by facts.old) question.now.fault.position tallies.old }
     ensures works { OnOk result (Works (net_of question.now.graph.now) question.now.fault facts.old log.old.lines.items facts.new log.new.lines.items) }
     ensures keeps { Keeps facts.old log.old.trail.items facts.new log.new.trail.items }
     ensures gives { IfOk result (Gives facts.new (AreDoneOutside (net_of question.now.graph.now) question.now.fault facts.new)) }
     ensures tallied { OnOk result (AreTallied (net_of question.now.graph.now) (held_by facts.new) question.now.fault.position tallies.new) }
-    ensures size { length agenda.new ≡ length agenda.old }
+    ensures size { length worklist.new ≡ length worklist.old }
     ensures room { length tallies.new.counted ≡ length tallies.old.counted }
 {
     for number in 0..question.graph.node_bound() {
         let node = NodeId(number);
         let line = Line::Out { node };
         let given = line_out_marked(question, node, site);
-        if let Some(clash) = give(question, facts, log, agenda, tallies, line, given)? {
+        if let Some(clash) = give(question, facts, log, worklist, tallies, line, given)? {
             return Ok(Some(clash));
         }
     }

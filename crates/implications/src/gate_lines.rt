@@ -1,4 +1,4 @@
-// Lines at a gate, by glances at its pins.
+// Lines at a gate, by scans of its pins.
 ghost use Rattle.std.specs.Prelude.{◌≡◌, ◌<◌, ◌≤◌, Option, None, length, false, true};
 ghost use Rattle.gate_graph.specs.Circuit.{net_of};
 ghost use Rattle.gate_net.specs.Net.{IsGate, IsLive, drivers_of};
@@ -14,7 +14,7 @@ use crate::found::Found;
 use crate::pulls::{Pull, equal_pull, junction_pull};
 use gate_graph::{Graph, Question};
 use refutation::following::gate_pins;
-use refutation::glances::look_at_facts;
+use refutation::pin_scans::look_at_facts;
 use refutation::pins::{Aspect, Stuck, known_of, stuck_at};
 use refutation::{Fact, FactSet, Line};
 use rm_base::NodeId;
@@ -56,8 +56,8 @@ fn pull_value(
     requires size { length (net_of graph.now).nodes ≤ length facts.now }
     ensures { IsPulled (net_of graph.now) node.0 (IsPull c (pins_of stuck aspect (held_by facts.now) (drivers_of (net_of graph.now) node.0)) (known_on aspect (held_by facts.now) node.0)) result }
 {
-    let glance = look_at_facts(gate_pins(graph, node), stuck, facts, aspect, c);
-    let pull = junction_pull(glance, c, known_of(facts, aspect, node))?;
+    let scan = look_at_facts(gate_pins(graph, node), stuck, facts, aspect, c);
+    let pull = junction_pull(scan, c, known_of(facts, aspect, node))?;
     Some(find_driver(graph, node, pull))
 }
 
@@ -67,8 +67,8 @@ fn pull_equal(graph: &Graph, facts: &FactSet, node: NodeId) -> Option<Pulled>
     requires size { length (net_of graph.now).nodes ≤ length facts.now }
     ensures { IsPulled (net_of graph.now) node.0 (IsEqualPull (pins_of None OfEqual (held_by facts.now) (drivers_of (net_of graph.now) node.0)) (known_on OfEqual (held_by facts.now) node.0)) result }
 {
-    let glance = look_at_facts(gate_pins(graph, node), None, facts, Aspect::OfEqual, false);
-    let pull = equal_pull(glance, known_of(facts, Aspect::OfEqual, node))?;
+    let scan = look_at_facts(gate_pins(graph, node), None, facts, Aspect::OfEqual, false);
+    let pull = equal_pull(scan, known_of(facts, Aspect::OfEqual, node))?;
     Some(find_driver(graph, node, pull))
 }
 

@@ -1,4 +1,5 @@
-//! The engine that closes a set of facts under every line of reasoning about a fault, exactly.
+//! The engine that closes a set of facts under every line of reasoning about a fault, exactly: implications of good and faulty
+//! values (Roth 1966), through unique paths too (Fujiwara and Shimono 1983; Kirkland and Mercer 1987).
 #![tactic(auto)]
 
 pub mod basis;

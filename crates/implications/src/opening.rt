@@ -17,14 +17,14 @@ use crate::log::{Log, start};
 use crate::state::Engine;
 use crate::tallies::Tallies;
 use gate_graph::{Graph, Question};
-use refutation::agenda::Agenda;
 use refutation::site::Site;
+use refutation::worklist::Worklist;
 use refutation::{Fact, FactSet};
 use rm_base::{NoMemory, NodeId, ONE, ZERO};
 
 // Takes back what was added, and holds again that the taken nodes are equal: that takes the time of both lists, and no
 // memory.
-fn come_to_rest(trail: &mut Vec<(NodeId, Fact)>, facts: &mut FactSet, taken: &mut Agenda)
+fn come_to_rest(trail: &mut Vec<(NodeId, Fact)>, facts: &mut FactSet, taken: &mut Worklist)
     requires { length taken.old ≤ length facts.old }
     ensures rest { (net : Net) → ComesToRest net trail.old.items taken.old facts.old → IsRest net (held_by facts.new) }
     ensures size { length facts.new ≡ length facts.old }
@@ -36,7 +36,7 @@ fn come_to_rest(trail: &mut Vec<(NodeId, Fact)>, facts: &mut FactSet, taken: &mu
 }
 
 // From rest to what the faulty gate doesn't reach.
-fn take_reached(question: &Question<'_>, site: &Site, facts: &mut FactSet, taken: &mut Agenda)
+fn take_reached(question: &Question<'_>, site: &Site, facts: &mut FactSet, taken: &mut Worklist)
     requires site { MarksReached (net_of question.now.graph.now) question.now.fault.gate.0 site.now.reached }
     requires facts { length (net_of question.now.graph.now).nodes ≤ length facts.old }
     requires taken { length (net_of question.now.graph.now).nodes ≤ length taken.old }
@@ -51,18 +51,18 @@ fn take_reached(question: &Question<'_>, site: &Site, facts: &mut FactSet, taken
     take_equals(site.reached_numbers(), facts, taken);
 }
 
-// Puts each node on the agenda that isn't settled by what the faulty gate doesn't reach.
-fn list_unsettled(question: &Question<'_>, pinless: &[NodeId], agenda: &mut Agenda)
+// Puts each node on the worklist that isn't settled by what the faulty gate doesn't reach.
+fn list_unsettled(question: &Question<'_>, pinless: &[NodeId], worklist: &mut Worklist)
     requires pinless { ArePinless (net_of question.now.graph.now) pinless.now }
-    requires agenda { length (net_of question.now.graph.now).nodes ≤ length agenda.old }
-    ensures pending { (facts : List NodeFacts) → AreOutside (net_of question.now.graph.now) question.now.fault (held_by facts) → IsPending (net_of question.now.graph.now) question.now.fault facts agenda.new }
-    ensures size { length agenda.new ≡ length agenda.old }
+    requires worklist { length (net_of question.now.graph.now).nodes ≤ length worklist.old }
+    ensures pending { (facts : List NodeFacts) → AreOutside (net_of question.now.graph.now) question.now.fault (held_by facts) → IsPending (net_of question.now.graph.now) question.now.fault facts worklist.new }
+    ensures size { length worklist.new ≡ length worklist.old }
 {
     question.graph.well_formed();
-    list_all(pinless, agenda);
-    agenda.add(ZERO);
-    agenda.add(ONE);
-    agenda.add(question.fault.gate);
+    list_all(pinless, worklist);
+    worklist.add(ZERO);
+    worklist.add(ONE);
+    worklist.add(question.fault.gate);
 }
 
 // Closes what the faulty gate doesn't reach, in place.
@@ -70,7 +70,7 @@ fn open_begun(
     question: &Question<'_>,
     basis: &mut Basis,
     log: &mut Log,
-    agenda: &mut Agenda,
+    worklist: &mut Worklist,
     tallies: &mut Tallies,
 ) -> Result<Option<NodeId>, NoMemory>
     requires room { HasRoom (net_of question.now.graph.now) basis.old }
@@ -78,19 +78,19 @@ fn open_begun(
     requires pinless { ArePinless (net_of question.now.graph.now) basis.old.pinless.items }
     requires lines { log.old.lines.items ≡ [] }
     requires trail { log.old.trail.items ≡ [] }
-    requires agenda { length (net_of question.now.graph.now).nodes ≤ length agenda.old }
+    requires worklist { length (net_of question.now.graph.now).nodes ≤ length worklist.old }
     requires tallies { length (net_of question.now.graph.now).nodes ≤ length tallies.old.counted }
     requires uncounted { tallies.old.counted ≡ replicate (length tallies.old.counted) false }
     ensures opened { IfOk result (IsOpened (net_of question.now.graph.now) question.now.fault log.new.lines.items basis.new.facts) }
     ensures rest { ComesToRest (net_of question.now.graph.now) log.new.trail.items basis.new.taken basis.new.facts }
     ensures room { HasRoom (net_of question.now.graph.now) basis.new }
     ensures pinless { basis.new.pinless ≡ basis.old.pinless }
-    ensures agenda { length agenda.new ≡ length agenda.old }
+    ensures worklist { length worklist.new ≡ length worklist.old }
     ensures tallies { length tallies.new.counted ≡ length tallies.old.counted }
 {
     question.graph.well_formed();
-    list_unsettled(question, &basis.pinless, agenda);
-    add_all_lines(question, &mut basis.facts, log, agenda, tallies)
+    list_unsettled(question, &basis.pinless, worklist);
+    add_all_lines(question, &mut basis.facts, log, worklist, tallies)
 }
 
 impl Engine {
@@ -98,7 +98,7 @@ impl Engine {
     pub fn has_room(&self, graph: &Graph) -> bool
         ensures { IsTrue result → length (net_of graph.now).nodes ≤ self.now.numbers }
     {
-        graph.node_bound() as usize <= self.agenda.len()
+        graph.node_bound() as usize <= self.worklist.len()
     }
 
     /// No fact is on the trail any more; those that are held stay.
@@ -144,10 +144,10 @@ impl Engine {
             question,
             basis,
             &mut self.log,
-            &mut self.agenda,
+            &mut self.worklist,
             &mut self.tallies,
         );
-        self.agenda.clear();
+        self.worklist.clear();
         self.tallies.clear();
         match answer {
             Ok(found) => Ok(found),

@@ -1,9 +1,9 @@
-// What glances at a gate's pins tell that isn't known yet.
+// What scans of a gate's pins tell that isn't known yet.
 ghost use Rattle.std.specs.Prelude.{◌≡◌, List, Option, Bool, false};
-ghost use Rattle.refutation.specs.Pins.{Glances};
+ghost use Rattle.refutation.specs.Pins.{IsScan};
 ghost use Rattle.implications.specs.Inner.Pulls.{IsPull, IsEqualPull};
 
-use refutation::pins::{Glance, is_value, junction_forward};
+use refutation::pins::{PinScan, is_value, junction_forward};
 
 /// What follows at a gate: something of the gate itself, or of the pin at a position.
 #[derive(Clone, Copy, Debug)]
@@ -12,12 +12,12 @@ pub enum Pull {
     Pin(usize, bool),
 }
 
-// The value of an And or an Or, or of one of its pins, that a glance for its controlling value gives and that isn't
+// The value of an And or an Or, or of one of its pins, that a scan for its controlling value gives and that isn't
 // known.
-pub(crate) fn junction_pull(glance: Glance, c: bool, known: Option<bool>) -> Option<Pull>
-    ensures { (os : List (Option Bool)) → Glances glance c os → IsPull c os known result }
+pub(crate) fn junction_pull(scan: PinScan, c: bool, known: Option<bool>) -> Option<Pull>
+    ensures { (os : List (Option Bool)) → IsScan scan c os → IsPull c os known result }
 {
-    if let Some(value) = junction_forward(glance, c) {
+    if let Some(value) = junction_forward(scan, c) {
         if is_value(known, value) {
             return None;
         }
@@ -25,19 +25,19 @@ pub(crate) fn junction_pull(glance: Glance, c: bool, known: Option<bool>) -> Opt
     }
     let value = known?;
     if value != c {
-        return Some(Pull::Pin(glance.at, value));
+        return Some(Pull::Pin(scan.at, value));
     }
-    if glance.rest == 1 {
-        return Some(Pull::Pin(glance.at, value));
+    if scan.rest == 1 {
+        return Some(Pull::Pin(scan.at, value));
     }
     None
 }
 
-// That a gate is equal, or that the driver of one of its pins differs, by a glance for drivers that differ.
-pub(crate) fn equal_pull(glance: Glance, known: Option<bool>) -> Option<Pull>
-    ensures { (os : List (Option Bool)) → Glances glance false os → IsEqualPull os known result }
+// That a gate is equal, or that the driver of one of its pins differs, by a scan for drivers that differ.
+pub(crate) fn equal_pull(scan: PinScan, known: Option<bool>) -> Option<Pull>
+    ensures { (os : List (Option Bool)) → IsScan scan false os → IsEqualPull os known result }
 {
-    if glance.rest == 0 {
+    if scan.rest == 0 {
         if is_value(known, true) {
             return None;
         }
@@ -46,11 +46,11 @@ pub(crate) fn equal_pull(glance: Glance, known: Option<bool>) -> Option<Pull>
     if !is_value(known, false) {
         return None;
     }
-    if glance.any {
+    if scan.any {
         return None;
     }
-    if glance.rest == 1 {
-        return Some(Pull::Pin(glance.at, false));
+    if scan.rest == 1 {
+        return Some(Pull::Pin(scan.at, false));
     }
     None
 }

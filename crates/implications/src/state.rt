@@ -7,8 +7,8 @@ ghost use Rattle.implications.specs.Trail.{LeadsBack};
 use crate::log::Log;
 use crate::tallies::Tallies;
 use gate_graph::Graph;
-use refutation::agenda::Agenda;
 use refutation::site::Site;
+use refutation::worklist::Worklist;
 use refutation::{Fact, Line};
 use rm_base::{NoMemory, NodeId};
 use std::alloc::Global;
@@ -19,7 +19,7 @@ use std::marker::Model;
 pub struct Engine {
     pub(crate) alloc: Global,
     pub(crate) log: Log,
-    pub(crate) agenda: Agenda,
+    pub(crate) worklist: Worklist,
     pub(crate) tallies: Tallies,
     pub(crate) site: Site,
 }
@@ -30,9 +30,9 @@ impl Model for Engine {
 
     ghost Value = { EngineState };
 
-    ghost view = { λ e. record { numbers = length e.agenda; lines = e.log.lines.items; trail = e.log.trail.items } };
+    ghost view = { λ e. record { numbers = length e.worklist; lines = e.log.lines.items; trail = e.log.trail.items } };
 
-    ghost invariant = { λ e. (e.agenda ≡ replicate (length e.agenda) false) × (e.tallies.counted ≡ replicate (length e.agenda) false) × (length e.site.reached ≡ length e.agenda) };
+    ghost invariant = { λ e. (e.worklist ≡ replicate (length e.worklist) false) × (e.tallies.counted ≡ replicate (length e.worklist) false) × (length e.site.reached ≡ length e.worklist) };
 }
 
 impl Engine {
@@ -51,7 +51,7 @@ impl Engine {
         ensures lines { IfOk result (λ e. e.lines ≡ []) }
         ensures trail { IfOk result (λ e. e.trail ≡ []) }
     {
-        let agenda = Agenda::new(alloc, numbers)?;
+        let worklist = Worklist::new(alloc, numbers)?;
         let tallies = Tallies::new(alloc, numbers)?;
         let site = Site::new(alloc, numbers)?;
         let log = Log {
@@ -62,7 +62,7 @@ impl Engine {
         Ok(Engine {
             alloc,
             log,
-            agenda,
+            worklist,
             tallies,
             site,
         })

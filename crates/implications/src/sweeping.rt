@@ -16,9 +16,9 @@ use crate::settling::add_found;
 use crate::tallies::Tallies;
 use gate_graph::Question;
 use refutation::FactSet;
-use refutation::agenda::Agenda;
 use refutation::following::gate_pins;
 use refutation::pins::controlling;
+use refutation::worklist::Worklist;
 use rm_base::{NoMemory, NodeId};
 
 // Adds what follows at one pin, or up to a clash, whose node is given.
@@ -26,7 +26,7 @@ fn sweep_pin(
     question: &Question<'_>,
     facts: &mut FactSet,
     log: &mut Log,
-    agenda: &mut Agenda,
+    worklist: &mut Worklist,
     tallies: &mut Tallies,
     node: NodeId,
     position: u32,
@@ -34,21 +34,21 @@ fn sweep_pin(
     c: bool,
 ) -> Result<Option<NodeId>, NoMemory>
     requires ready { IsReady (net_of question.now.graph.now) question.now.fault facts.old }
-    requires agenda { length (net_of question.now.graph.now).nodes ≤ length agenda.old }
+    requires worklist { length (net_of question.now.graph.now).nodes ≤ length worklist.old }
     requires room { length (net_of question.now.graph.now).nodes ≤ length tallies.old.counted }
     requires tallied { AreTallied (net_of question.now.graph.now) (held_by facts.old) question.now.fault.position tallies.old }
-    requires pending { IsPendingBut (net_of question.now.graph.now) question.now.fault facts.old agenda.old node.0 }
+    requires pending { IsPendingBut (net_of question.now.graph.now) question.now.fault facts.old worklist.old node.0 }
     requires free { IsClashFree (held_by facts.old) }
     requires kind { IsJunction (net_of question.now.graph.now) node.0 c }
     requires reads { Reads (net_of question.now.graph.now) node.0 position driver.0 }
-    ensures sweeps { IfOk result (Sweeps (net_of question.now.graph.now) question.now.fault facts.old log.old.lines.items log.old.trail.items agenda.old facts.new log.new.lines.items log.new.trail.items agenda.new node.0) }
+    ensures sweeps { IfOk result (Sweeps (net_of question.now.graph.now) question.now.fault facts.old log.old.lines.items log.old.trail.items worklist.old facts.new log.new.lines.items log.new.trail.items worklist.new node.0) }
     ensures keeps { Keeps facts.old log.old.trail.items facts.new log.new.trail.items }
     ensures tallied { OnOk result (AreTallied (net_of question.now.graph.now) (held_by facts.new) question.now.fault.position tallies.new) }
-    ensures size { length agenda.new ≡ length agenda.old }
+    ensures size { length worklist.new ≡ length worklist.old }
     ensures room { length tallies.new.counted ≡ length tallies.old.counted }
 {
     while let Some(found) = pin_line(question, facts, node, position, driver, c) {
-        if add_found(question, facts, log, agenda, tallies, found)? {
+        if add_found(question, facts, log, worklist, tallies, found)? {
             return Ok(Some(found.node));
         }
     }
@@ -60,28 +60,28 @@ fn sweep_pins(
     question: &Question<'_>,
     facts: &mut FactSet,
     log: &mut Log,
-    agenda: &mut Agenda,
+    worklist: &mut Worklist,
     tallies: &mut Tallies,
     node: NodeId,
     c: bool,
 ) -> Result<Option<NodeId>, NoMemory>
     requires ready { IsReady (net_of question.now.graph.now) question.now.fault facts.old }
-    requires agenda { length (net_of question.now.graph.now).nodes ≤ length agenda.old }
+    requires worklist { length (net_of question.now.graph.now).nodes ≤ length worklist.old }
     requires room { length (net_of question.now.graph.now).nodes ≤ length tallies.old.counted }
     requires tallied { AreTallied (net_of question.now.graph.now) (held_by facts.old) question.now.fault.position tallies.old }
-    requires pending { IsPendingBut (net_of question.now.graph.now) question.now.fault facts.old agenda.old node.0 }
+    requires pending { IsPendingBut (net_of question.now.graph.now) question.now.fault facts.old worklist.old node.0 }
     requires free { IsClashFree (held_by facts.old) }
     requires kind { IsJunction (net_of question.now.graph.now) node.0 c }
-    ensures sweeps { IfOk result (Sweeps (net_of question.now.graph.now) question.now.fault facts.old log.old.lines.items log.old.trail.items agenda.old facts.new log.new.lines.items log.new.trail.items agenda.new node.0) }
+    ensures sweeps { IfOk result (Sweeps (net_of question.now.graph.now) question.now.fault facts.old log.old.lines.items log.old.trail.items worklist.old facts.new log.new.lines.items log.new.trail.items worklist.new node.0) }
     ensures keeps { Keeps facts.old log.old.trail.items facts.new log.new.trail.items }
     ensures tallied { OnOk result (AreTallied (net_of question.now.graph.now) (held_by facts.new) question.now.fault.position tallies.new) }
-    ensures size { length agenda.new ≡ length agenda.old }
+    ensures size { length worklist.new ≡ length worklist.old }
     ensures room { length tallies.new.counted ≡ length tallies.old.counted }
 {
     let mut position = 0u32;
     for driver in gate_pins(question.graph, node) {
         if let Some(clash) = sweep_pin(
-            question, facts, log, agenda, tallies, node, position, driver, c,
+            question, facts, log, worklist, tallies, node, position, driver, c,
         )? {
             return Ok(Some(clash));
         }
@@ -97,20 +97,20 @@ pub(crate) fn sweep(
     question: &Question<'_>,
     facts: &mut FactSet,
     log: &mut Log,
-    agenda: &mut Agenda,
+    worklist: &mut Worklist,
     tallies: &mut Tallies,
     node: NodeId,
 ) -> Result<Option<NodeId>, NoMemory>
     requires ready { IsReady (net_of question.now.graph.now) question.now.fault facts.old }
-    requires agenda { length (net_of question.now.graph.now).nodes ≤ length agenda.old }
+    requires worklist { length (net_of question.now.graph.now).nodes ≤ length worklist.old }
     requires room { length (net_of question.now.graph.now).nodes ≤ length tallies.old.counted }
     requires tallied { AreTallied (net_of question.now.graph.now) (held_by facts.old) question.now.fault.position tallies.old }
-    requires pending { IsPendingBut (net_of question.now.graph.now) question.now.fault facts.old agenda.old node.0 }
+    requires pending { IsPendingBut (net_of question.now.graph.now) question.now.fault facts.old worklist.old node.0 }
     requires free { IsClashFree (held_by facts.old) }
-    ensures sweeps { IfOk result (Sweeps (net_of question.now.graph.now) question.now.fault facts.old log.old.lines.items log.old.trail.items agenda.old facts.new log.new.lines.items log.new.trail.items agenda.new node.0) }
+    ensures sweeps { IfOk result (Sweeps (net_of question.now.graph.now) question.now.fault facts.old log.old.lines.items log.old.trail.items worklist.old facts.new log.new.lines.items log.new.trail.items worklist.new node.0) }
     ensures keeps { Keeps facts.old log.old.trail.items facts.new log.new.trail.items }
     ensures tallied { OnOk result (AreTallied (net_of question.now.graph.now) (held_by facts.new) question.now.fault.position tallies.new) }
-    ensures size { length agenda.new ≡ length agenda.old }
+    ensures size { length worklist.new ≡ length worklist.old }
     ensures room { length tallies.new.counted ≡ length tallies.old.counted }
 {
     let Some(kind) = question.graph.kind(node) else {
@@ -128,8 +128,8 @@ pub(crate) fn sweep(
     }
     if let Some((position, driver)) = blocked_pin(question, facts, &tally, node, c) {
         return sweep_pin(
-            question, facts, log, agenda, tallies, node, position, driver, c,
+            question, facts, log, worklist, tallies, node, position, driver, c,
         );
     }
-    sweep_pins(question, facts, log, agenda, tallies, node, c)
+    sweep_pins(question, facts, log, worklist, tallies, node, c)
 }

@@ -13,8 +13,8 @@ ghost use Rattle.implications.specs.declared.tallies.Tally.{Tally};
 ghost use Rattle.rm_base.specs.Numbers.{number_bound};
 
 use gate_graph::{Inputs, Question};
-use refutation::agenda::Agenda;
 use refutation::following::gate_pins;
+use refutation::worklist::Worklist;
 use refutation::{Fact, FactSet};
 use rm_base::{NoMemory, NodeId};
 use std::alloc::Global;
@@ -233,7 +233,7 @@ fn raise_at(tallies: &mut Vec<Tally>, place: u32, rise: Rise)
 /// time, and its counts rise with each fact on a driver.
 #[derive(Drop)]
 pub struct Tallies {
-    counted: Agenda,
+    counted: Worklist,
     tallies: Vec<Tally>,
 }
 
@@ -253,7 +253,7 @@ impl Tallies {
     pub fn new(alloc: Global, numbers: u32) -> Result<Tallies, NoMemory>
         ensures { IfOk result (λ t. t.counted ≡ replicate numbers false) }
     {
-        let counted = Agenda::new(alloc, numbers)?;
+        let counted = Worklist::new(alloc, numbers)?;
         let tallies = no_tallies(alloc, numbers)?;
         Ok(Tallies { counted, tallies })
     }
@@ -301,11 +301,11 @@ impl Tallies {
     }
 }
 
-/// Puts a node on which a fact comes to be held on the agenda, with its readers, whose tallies rise.
+/// Puts a node on which a fact comes to be held on the worklist, with its readers, whose tallies rise.
 pub(crate) fn touch(
     question: &Question<'_>,
     facts: &FactSet,
-    agenda: &mut Agenda,
+    worklist: &mut Worklist,
     tallies: &mut Tallies,
     node: NodeId,
     fact: Fact,
@@ -313,18 +313,18 @@ pub(crate) fn touch(
     requires node { IsLive (net_of question.now.graph.now) node.0 }
     requires new { held_by facts.now node.0 fact ≡ false }
     requires size { length (net_of question.now.graph.now).nodes ≤ length facts.now }
-    requires agenda { length (net_of question.now.graph.now).nodes ≤ length agenda.old }
+    requires worklist { length (net_of question.now.graph.now).nodes ≤ length worklist.old }
     requires room { length (net_of question.now.graph.now).nodes ≤ length tallies.old.counted }
     requires tallied { AreTallied (net_of question.now.graph.now) (held_by facts.now) question.now.fault.position tallies.old }
-    ensures touches { Touches (net_of question.now.graph.now) agenda.old agenda.new node.0 }
+    ensures touches { Touches (net_of question.now.graph.now) worklist.old worklist.new node.0 }
     ensures tallied { AreTallied (net_of question.now.graph.now) (with_fact (held_by facts.now) node.0 fact) question.now.fault.position tallies.new }
     ensures room { length tallies.new.counted ≡ length tallies.old.counted }
 {
     let rise = rise_by(facts, node, fact);
     question.graph.readers_listed();
-    agenda.add(node);
+    worklist.add(node);
     for reader in question.graph.readers_of(node) {
-        agenda.add(reader);
+        worklist.add(reader);
         tallies.raise(reader, rise);
     }
 }

@@ -25,7 +25,8 @@ use Rattle.journal_text.specs.declared.record.Record.{Record}
 use Rattle.journal_text.specs.declared.record.Record.TheVariants as kept
 use Rattle.journal_text.specs.Accepted.{IsAcceptedStep, IsJustified, MayGrow}
 use Rattle.journal_check.specs.declared.refusal.Why.TheVariants as why
-use Rattle.journal_check.specs.Replaying.{EndLeads, FreezeLeads, HitLeads, LastLeads, Leads, Outcome, Position, RefusesTree, SpentLeads, StepLeads, VerdictLeads, editing, one_each, refused, settling, gate_of}
+use Rattle.journal_check.specs.Replaying.{EndLeads, FreezeLeads, HitLeads, LastLeads, Leads, Outcome, Position, RefusesTree, SpentLeads, StepLeads, VerdictLeads, editing, one_each, refused, settling}
+use Rattle.wire_edit.specs.Steps.{gate_of_step}
 use Rattle.gate_net.specs.Meaning.{is_gate_family}
 use Rattle.wire_edit.proofs.Public.{junction_gate, not_gate, several_gate}
 use Rattle.rm_base.proofs.Public.{not_from_false}
@@ -255,8 +256,8 @@ module _ (none : AcceptedAreNotRefused) (one : RefusalsAgree) where
   step_same : (d s t : Step) → Some s ≡ Some t → s ≡ t
   step_same d s t e = ap (λ (o : Option Step). elim o as (λ _. Step) [ Some x ↦ x | None ↦ d ]) e
 
-  tidy_once : (net : Net) (s t : Step) (a b : Outcome) → next_step net ≡ Some s → next_step net ≡ Some t → a ≡ refused (why.NotTidy (gate_of s)) → b ≡ refused (why.NotTidy (gate_of t)) → a ≡ b
-  tidy_once net s t a b h i x y = x ∙ ap (λ (z : Step). refused (why.NotTidy (gate_of z))) (step_same s s t (sym h ∙ i)) ∙ sym y
+  tidy_once : (net : Net) (s t : Step) (a b : Outcome) → next_step net ≡ Some s → next_step net ≡ Some t → a ≡ refused (why.NotTidy (gate_of_step s)) → b ≡ refused (why.NotTidy (gate_of_step t)) → a ≡ b
+  tidy_once net s t a b h i x y = x ∙ ap (λ (z : Step). refused (why.NotTidy (gate_of_step z))) (step_same s s t (sym h ∙ i)) ∙ sym y
 
   freeze_once : (net : Net) (budget : ℕ) (r : Record) (a b : Outcome) → FreezeLeads net budget r a → FreezeLeads net budget r b → a ≡ b
   freeze_once net budget r a b (inl (s, (h, x))) (inl (t, (i, y))) = tidy_once net s t a b h i x y

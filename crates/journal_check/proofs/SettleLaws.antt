@@ -12,7 +12,7 @@ use Rattle.journal_text.specs.declared.record.Record.TheVariants as kept
 use Rattle.journal_check.specs.declared.settling.Settling.{Settling}
 use Rattle.journal_check.specs.Verdicts.{edges_of}
 use Rattle.journal_check.specs.Replaying.{VerdictLeads, goes_on, settling}
-use Rattle.journal_check.specs.Inner.Benches.{Expects, IsSettling, left_of}
+use Rattle.journal_check.specs.Inner.ReplayStates.{Expects, IsSettling, left_of}
 
 drop_next : (fs : List Fault) (n : ℕ) (x : Fault) (xs : List Fault) → drop n fs ≡ x ∷ xs → (n < length fs) × (drop (suc n) fs ≡ xs)
 drop_next [] zero x xs e = cc

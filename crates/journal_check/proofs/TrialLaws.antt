@@ -16,10 +16,10 @@ use Rattle.wire_edit.specs.Steps.{stepped}
 use Rattle.wire_edit.specs.Tried.{IsAt, Tried, start_of}
 use Rattle.journal_text.specs.Accepted.{IsAcceptedStep}
 use Rattle.journal_text.specs.declared.record.Record.TheVariants as kept
-use Rattle.journal_check.specs.declared.bench.Bench.{Bench}
-use Rattle.journal_check.specs.declared.bench.Bench.TheVariants.{Idle, Trying}
+use Rattle.journal_check.specs.declared.state.ReplayState.{ReplayState}
+use Rattle.journal_check.specs.declared.state.ReplayState.TheVariants.{Idle, Trying}
 use Rattle.journal_check.specs.declared.refusal.Why.{Why}
-use Rattle.journal_check.specs.Inner.Benches.{IsEditing, IsIdle, IsReady, RecordSays, net_in, position_of}
+use Rattle.journal_check.specs.Inner.ReplayStates.{IsEditing, IsIdle, IsReady, RecordSays, net_in, position_of}
 use Rattle.journal_check.specs.Replaying.{Leads, Position, editing, goes_on, one_each, refused}
 use Rattle.journal_check.specs.Inner.Replaying.{Makes}
 use Rattle.journal_check.specs.Inner.Within.{IsWithin}
@@ -27,10 +27,10 @@ use Rattle.journal_check.proofs.MadeLaws.{one_answer}
 use Rattle.journal_check.proofs.WithinLaws.{nodes_bounded, stays_within, wires_bounded}
 
 pub idle_edits : (g : Circuit) → IsIdle g → IsEditing (Idle g)
-idle_edits g i = record { bench = i; editing_at = refl }
+idle_edits g i = record { state = i; editing_at = refl }
 
 pub ready_edits : (t : Tried) (left : ℕ) → IsReady t left → IsEditing (Trying t left)
-ready_edits t left r = record { bench = r; editing_at = refl }
+ready_edits t left r = record { state = r; editing_at = refl }
 
 -- the answer to a step, as of room for one
 pub ready_answer : RoomsAgree → (t : Tried) (left : ℕ) (s : Step) (r : Option EditRefusal) → IsReady t left → 0 < left → IsAnswer (net_of t.graph) t.room s r → IsAnswer (net_of t.graph) one_each s r
@@ -97,7 +97,7 @@ pub room_nodes : (g : Circuit) (left : ℕ) → IsIdle g → live_nodes g ≡ 2 
 room_nodes g left i e l = omega (arith, e, l, nodes_bounded (net_of g) i.within)
 
 -- a step that is made, or not, says what its record says
-pub makes_says : (budget : ℕ) (p : Position) (net : Net) (s : Step) (tree : List Item) (after : Bench) (answer : Result (Unit {0}) Why) → p ≡ editing net → Makes net s tree (net_in after) answer → IsEditing after
+pub makes_says : (budget : ℕ) (p : Position) (net : Net) (s : Step) (tree : List Item) (after : ReplayState) (answer : Result (Unit {0}) Why) → p ≡ editing net → Makes net s tree (net_in after) answer → IsEditing after
     → RecordSays budget p (kept.Step s tree) (position_of after) answer
 makes_says budget p net s tree after (Ok u) e m i =
     subst (λ (q : Position). Leads budget q (kept.Step s tree) (goes_on (position_of after))) (sym e)

@@ -1,6 +1,5 @@
 -- What each record of a journal leads to, and where it is refused.
 use Rattle.std.specs.Prelude.{◌≡◌, ◌≢◌, ℕ, suc, ◌+◌, ◌-◌, ◌^◌, min, Bool, not, List, [], ◌∷◌, Some, None, ◌⊎◌}
-use Rattle.rm_base.specs.declared.numbers.NodeId.{NodeId}
 use Rattle.rm_base.specs.declared.numbers.Fault.{Fault}
 use Rattle.gate_net.specs.Net.{Net}
 use Rattle.gate_net.specs.Edits.{last_pin}
@@ -13,7 +12,7 @@ use Rattle.wire_edit.specs.declared.steps.Step.TheVariants as step
 use Rattle.wire_edit.specs.declared.room.Room.{Room}
 use Rattle.wire_edit.specs.declared.refusal.EditRefusal.{EditRefusal}
 use Rattle.wire_edit.specs.Tests.{control_of}
-use Rattle.wire_edit.specs.Steps.{stepped}
+use Rattle.wire_edit.specs.Steps.{gate_of_step, stepped}
 use Rattle.wire_edit.specs.Order.{next_step, IsTidy}
 use Rattle.wire_edit.specs.Refusals.{IsAnswer}
 use Rattle.journal_text.specs.declared.record.Record.{Record}
@@ -43,19 +42,6 @@ RefusesTree net (step.Add gate node) tree r =
     (c : Bool) × ((control_of net gate.0 ≡ Some c) × IsFirstRefusal (stepped net (step.Add gate node)) (last_pin net gate.0 (not c)) Closed tree r)
 RefusesTree net (step.Fix gate position value) tree r = IsFirstRefusal net (record { gate = gate; position = position; value = value }) Closed tree r
 RefusesTree net _ tree r = ⊥
-
--- the gate of a step
-abbrev pub gate_of : Step → NodeId
-gate_of (step.Add gate node) = gate
-gate_of (step.Fix gate position value) = gate
-gate_of (step.NewNot node) = node
-gate_of (step.Const gate position) = gate
-gate_of (step.Same gate position) = gate
-gate_of (step.NoPins gate) = gate
-gate_of (step.OnePin gate) = gate
-gate_of (step.Twice gate) = gate
-gate_of (step.Twin gate other) = gate
-gate_of (step.Dead gate) = gate
 
 -- a step: it isn't possible, or its tree isn't accepted, or it is accepted
 abbrev pub StepLeads : Net → Step → List Item → Outcome → Type 0
@@ -87,7 +73,7 @@ VerdictLeads net budget (f ∷ fs) (kept.Spent given tree) out =
 -- the net is frozen, if it is tidy
 abbrev pub FreezeLeads : Net → ℕ → Record → Outcome → Type 0
 FreezeLeads net budget r out =
-    ((s : Step) × ((next_step net ≡ Some s) × (out ≡ refused (why.NotTidy (gate_of s))))) ⊎ (IsTidy net × VerdictLeads net budget (faults_of net) r out)
+    ((s : Step) × ((next_step net ≡ Some s) × (out ≡ refused (why.NotTidy (gate_of_step s))))) ⊎ (IsTidy net × VerdictLeads net budget (faults_of net) r out)
 
 -- what a record leads to
 abbrev pub Leads : ℕ → Position → Record → Outcome → Type 0
@@ -104,7 +90,7 @@ LastLeads net (f ∷ fs) out = out ≡ refused (why.FaultMissing f)
 -- what the end leads to: the last net, or a refusal
 abbrev pub EndLeads : Position → Outcome → Type 0
 EndLeads (editing net) out =
-    ((s : Step) × ((next_step net ≡ Some s) × (out ≡ refused (why.NotTidy (gate_of s))))) ⊎ (IsTidy net × LastLeads net (faults_of net) out)
+    ((s : Step) × ((next_step net ≡ Some s) × (out ≡ refused (why.NotTidy (gate_of_step s))))) ⊎ (IsTidy net × LastLeads net (faults_of net) out)
 EndLeads (settling net fs) out = LastLeads net fs out
 
 -- records, one after another, lead from one position to another

@@ -2,7 +2,6 @@
 #![tactic(auto)]
 
 mod batches;
-mod bench;
 mod editing;
 mod freezing;
 mod laws;
@@ -10,6 +9,7 @@ mod refusal;
 mod replaying;
 mod settling;
 mod showing;
+mod state;
 mod tracing;
 mod trying;
 mod whole;

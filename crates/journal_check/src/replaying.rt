@@ -10,13 +10,13 @@ ghost use Rattle.rm_model.specs.WellFormed.{IsWellFormed};
 ghost use Rattle.cover_decompose.specs.Count.{decomposed};
 ghost use Rattle.cover_decompose.specs.Decomposition.{net_of_model};
 ghost use Rattle.cover_decompose.specs.Refusals.{IsRefused};
-ghost use Rattle.journal_check.specs.Inner.Benches.{IsBench, IsIdle, RecordSays, net_in, position_of};
+ghost use Rattle.journal_check.specs.Inner.ReplayStates.{IsReplayState, IsIdle, RecordSays, net_in, position_of};
 ghost use Rattle.journal_check.specs.Replaying.{IsLocalTree, editing};
 ghost use Rattle.journal_check.specs.Standing.{Finishes, KeepsOthers, Steps};
 
-use crate::bench::Bench;
 use crate::freezing::{end, verdict};
 use crate::refusal::{JournalRefusal, Why};
+use crate::state::ReplayState;
 use crate::trying::edit;
 use cover_decompose::{DecomposeRefusal, decompose, decompositions_stand};
 use gate_graph::Graph;
@@ -33,7 +33,7 @@ pub struct Replay {
     alloc: Global,
     checker: TreeChecker,
     // It is away only while a record is looked at.
-    bench: Option<Bench>,
+    state: Option<ReplayState>,
     // Vectors that are likely to come.
     ahead: Vec<Vector>,
     budget: u32,
@@ -47,44 +47,44 @@ impl Model for Replay {
 
     ghost Value = { Standing };
 
-    ghost view = { λ r. record { position = position_in r.bench; budget = r.budget; number = r.number; refusal = r.refused } };
+    ghost view = { λ r. record { position = position_in r.state; budget = r.budget; number = r.number; refusal = r.refused } };
 
-    ghost invariant = { λ r. IsThere r.bench };
+    ghost invariant = { λ r. IsThere r.state };
 }
 
 // What a record does to the graph.
 fn apply_record(
     alloc: Global,
     checker: &mut TreeChecker,
-    bench: Bench,
+    state: ReplayState,
     given: &Record,
     budget: u32,
     ahead: &[Vector],
-) -> (Bench, Result<(), Why>)
-    requires bench { IsBench bench }
+) -> (ReplayState, Result<(), Why>)
+    requires state { IsReplayState state }
     requires tree { IsLocalTree given.now }
-    ensures bench { IsBench result.0 }
-    ensures says { RecordSays budget (position_of bench) given.now (position_of result.0) result.1 }
+    ensures state { IsReplayState result.0 }
+    ensures says { RecordSays budget (position_of state) given.now (position_of result.0) result.1 }
 {
     match given {
-        Record::Step { step, tree } => edit(alloc, checker, bench, *step, tree),
+        Record::Step { step, tree } => edit(alloc, checker, state, *step, tree),
         Record::Hit {
             fault: _,
             vector: _,
-        } => verdict(alloc, checker, bench, given, budget, ahead),
-        Record::Spent { fault: _, tree: _ } => verdict(alloc, checker, bench, given, budget, ahead),
+        } => verdict(alloc, checker, state, given, budget, ahead),
+        Record::Spent { fault: _, tree: _ } => verdict(alloc, checker, state, given, budget, ahead),
     }
 }
 
 // The graph at work, with the steps so far.
-fn into_graph(bench: Bench) -> Graph
-    requires { IsBench bench }
-    ensures { net_of result ≡ net_in bench }
+fn into_graph(state: ReplayState) -> Graph
+    requires { IsReplayState state }
+    ensures { net_of result ≡ net_in state }
 {
-    match bench {
-        Bench::Idle { graph } => graph,
-        Bench::Trying { trial, left: _ } => trial.commit(),
-        Bench::Frozen { graph, settling: _ } => graph,
+    match state {
+        ReplayState::Idle { graph } => graph,
+        ReplayState::Trying { trial, left: _ } => trial.commit(),
+        ReplayState::Frozen { graph, settling: _ } => graph,
     }
 }
 
@@ -125,7 +125,7 @@ impl Replay {
         Replay {
             alloc,
             checker,
-            bench: Some(Bench::Idle { graph }),
+            state: Some(ReplayState::Idle { graph }),
             ahead: Vec::new(alloc),
             budget,
             number: 1,
@@ -139,18 +139,18 @@ impl Replay {
         ensures others { KeepsOthers self.old self.new }
         ensures says { RecordSays self.old.budget self.old.position given.now self.new.position result }
     {
-        let Some(bench) = self.bench.take() else {
+        let Some(state) = self.state.take() else {
             unreachable!()
         };
-        let (bench, answer) = apply_record(
+        let (state, answer) = apply_record(
             self.alloc,
             &mut self.checker,
-            bench,
+            state,
             given,
             self.budget,
             self.ahead.as_slice(),
         );
-        self.bench = Some(bench);
+        self.state = Some(state);
         answer
     }
 
@@ -199,14 +199,14 @@ impl Replay {
         let Replay {
             alloc: _alloc,
             checker: _checker,
-            bench,
+            state,
             ahead: _ahead,
             budget: _budget,
             number: _number,
             refused: _refused,
         } = self;
-        let Some(bench) = bench else { unreachable!() };
-        into_graph(bench)
+        let Some(state) = state else { unreachable!() };
+        into_graph(state)
     }
 
     /// The last net, where the journal is accepted.
@@ -216,7 +216,7 @@ impl Replay {
         let Replay {
             alloc,
             checker: _checker,
-            bench,
+            state,
             ahead: _ahead,
             budget: _budget,
             number,
@@ -225,8 +225,8 @@ impl Replay {
         if let Some(refusal) = refused {
             return Err(refusal);
         }
-        let Some(bench) = bench else { unreachable!() };
-        match end(alloc, bench) {
+        let Some(state) = state else { unreachable!() };
+        match end(alloc, state) {
             Ok(graph) => Ok(graph),
             Err(why) => Err(JournalRefusal { number, why }),
         }

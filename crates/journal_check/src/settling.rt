@@ -7,7 +7,7 @@ ghost use Rattle.fault_sim.specs.LaneStates.{Fits};
 ghost use Rattle.journal_text.specs.declared.record.Record.TheVariants as kept;
 ghost use Rattle.refutation.specs.declared.items.Item.{Item};
 ghost use Rattle.wire_edit.specs.declared.steps.Step.{Step as StepValue};
-ghost use Rattle.journal_check.specs.Inner.Benches.{Expects, IsSettling, VerdictSays, head_of, left_of};
+ghost use Rattle.journal_check.specs.Inner.ReplayStates.{Expects, IsSettling, VerdictSays, head_of, left_of};
 ghost use Rattle.journal_check.specs.Replaying.{VerdictLeads, refused};
 ghost use Rattle.journal_check.specs.Inner.Replaying.{SpentSays};
 ghost use Rattle.journal_check.specs.Inner.Vectors.{bit_word};

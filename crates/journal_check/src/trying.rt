@@ -2,13 +2,13 @@
 ghost use Rattle.std.specs.Prelude.{◌≡◌, ◌<◌, ◌≤◌, ℕ, IfErr, IfOk, OnErr};
 ghost use Rattle.gate_graph.specs.Circuit.{net_of};
 ghost use Rattle.journal_text.specs.declared.record.Record.TheVariants as kept;
-ghost use Rattle.journal_check.specs.Inner.Benches.{IsBench, IsEditing, IsIdle, IsReady, RecordSays, net_in, position_of};
+ghost use Rattle.journal_check.specs.Inner.ReplayStates.{IsReplayState, IsEditing, IsIdle, IsReady, RecordSays, net_in, position_of};
 ghost use Rattle.journal_check.specs.Replaying.{IsStepTree};
 ghost use Rattle.journal_check.specs.Inner.Replaying.{Makes};
 
-use crate::bench::Bench;
 use crate::editing::{add_says, added_pin, fix_says};
 use crate::refusal::Why;
+use crate::state::ReplayState;
 use gate_graph::Graph;
 use refutation::Tree;
 use refutation_check::TreeChecker;
@@ -77,7 +77,7 @@ fn make(
     left: usize,
     step: Step,
     tree: &Tree,
-) -> (Bench, Result<(), Why>)
+) -> (ReplayState, Result<(), Why>)
     requires ready { IsReady trial left }
     requires room { 0 < left }
     requires tree { IsStepTree step tree.now }
@@ -92,19 +92,19 @@ fn make(
     let before = fix_says(checker, trial.graph(), step, tree);
     let added = added_pin(trial.graph(), step);
     if let Err(refusal) = trial.apply(step) {
-        return (Bench::Trying { trial, left }, Err(Why::Edit(refusal)));
+        return (ReplayState::Trying { trial, left }, Err(Why::Edit(refusal)));
     }
     if let Err(why) = before {
         let graph = trial.rollback();
-        return (Bench::Idle { graph }, Err(why));
+        return (ReplayState::Idle { graph }, Err(why));
     }
     if let Err(why) = add_says(checker, trial.graph(), added, tree) {
         let graph = trial.rollback();
-        return (Bench::Idle { graph }, Err(why));
+        return (ReplayState::Idle { graph }, Err(why));
     }
     trial.keep();
     let left = left - 1;
-    (Bench::Trying { trial, left }, Ok(()))
+    (ReplayState::Trying { trial, left }, Ok(()))
 }
 
 // Begins a trial for a step.
@@ -114,7 +114,7 @@ fn begin_and_make(
     graph: Graph,
     step: Step,
     tree: &Tree,
-) -> (Bench, Result<(), Why>)
+) -> (ReplayState, Result<(), Why>)
     requires idle { IsIdle graph }
     requires tree { IsStepTree step tree.now }
     ensures makes { Makes (net_of graph) step tree.now (net_in result.0) result.1 }
@@ -122,7 +122,7 @@ fn begin_and_make(
 {
     match begin_trial(alloc, graph) {
         Ok((trial, left)) => make(checker, trial, left, step, tree),
-        Err(graph) => (Bench::Idle { graph }, Err(Why::NoMemory)),
+        Err(graph) => (ReplayState::Idle { graph }, Err(Why::NoMemory)),
     }
 }
 
@@ -133,7 +133,7 @@ fn renew_and_make(
     trial: Trial,
     step: Step,
     tree: &Tree,
-) -> (Bench, Result<(), Why>)
+) -> (ReplayState, Result<(), Why>)
     requires ready { IsReady trial 0 }
     requires tree { IsStepTree step tree.now }
     ensures makes { Makes (net_of trial.graph) step tree.now (net_in result.0) result.1 }
@@ -142,7 +142,7 @@ fn renew_and_make(
     let mut trial = trial;
     match renew(alloc, &mut trial) {
         Ok(left) => make(checker, trial, left, step, tree),
-        Err(NoMemory) => (Bench::Trying { trial, left: 0 }, Err(Why::NoMemory)),
+        Err(NoMemory) => (ReplayState::Trying { trial, left: 0 }, Err(Why::NoMemory)),
     }
 }
 
@@ -150,26 +150,26 @@ fn renew_and_make(
 pub(crate) fn edit(
     alloc: Global,
     checker: &mut TreeChecker,
-    bench: Bench,
+    state: ReplayState,
     step: Step,
     tree: &Tree,
-) -> (Bench, Result<(), Why>)
-    requires bench { IsBench bench }
+) -> (ReplayState, Result<(), Why>)
+    requires state { IsReplayState state }
     requires tree { IsStepTree step tree.now }
-    ensures bench { IsBench result.0 }
-    ensures says { (budget : ℕ) → RecordSays budget (position_of bench) (kept.Step step tree.now) (position_of result.0) result.1 }
+    ensures state { IsReplayState result.0 }
+    ensures says { (budget : ℕ) → RecordSays budget (position_of state) (kept.Step step tree.now) (position_of result.0) result.1 }
 {
-    match bench {
-        Bench::Idle { graph } => begin_and_make(alloc, checker, graph, step, tree),
-        Bench::Trying { trial, left } => {
+    match state {
+        ReplayState::Idle { graph } => begin_and_make(alloc, checker, graph, step, tree),
+        ReplayState::Trying { trial, left } => {
             if left == 0 {
                 return renew_and_make(alloc, checker, trial, step, tree);
             }
             make(checker, trial, left, step, tree)
         }
-        Bench::Frozen { graph, settling } => {
+        ReplayState::Frozen { graph, settling } => {
             let why = settling.late();
-            (Bench::Frozen { graph, settling }, Err(why))
+            (ReplayState::Frozen { graph, settling }, Err(why))
         }
     }
 }

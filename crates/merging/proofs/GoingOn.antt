@@ -36,10 +36,11 @@ use Rattle.journal_text.specs.declared.record.Record.{Record}
 use Rattle.journal_text.specs.declared.record.Record.TheVariants as record_of
 use Rattle.journal_text.specs.Accepted.{IsJustified, MayGrow, IsAcceptedStep}
 use Rattle.journal_text.proofs.Public.{accepted_then}
-use Rattle.merging.specs.Inner.Changing.{IsUnlisted, TouchesOn}
+use Rattle.changed_nodes.specs.Changing.{IsUnlisted}
+use Rattle.merging.specs.Inner.Going.{TouchesOn}
 use Rattle.merging.specs.Inner.Going.{Follows, Goes, Logs, Stays}
 use Rattle.merging.specs.declared.space.Space.{Space}
-use Rattle.merging.proofs.Noting.{unlisted_append}
+use Rattle.changed_nodes.proofs.Public.{unlisted_append}
 use Rattle.merging.proofs.Sizing.{TurnsXor, gate_budget, turns_xor}
 
 -- LISTS OF RECORDS

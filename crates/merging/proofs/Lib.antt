@@ -1,4 +1,3 @@
-pub mod Noting
 pub mod Sizing
 pub mod GoingOn
 pub mod Merges

@@ -1,4 +1,3 @@
 -- Definitions that no public contract reaches: words of private contracts, of invariants, and of laws for proofs.
-pub mod Changing
 pub mod Going
 pub mod Merging

@@ -5,9 +5,9 @@ ghost use Rattle.gate_graph.specs.Holds.{pins_held};
 ghost use Rattle.gate_net.specs.Net.{gate_count, source_count, wire_count};
 ghost use Rattle.merging.specs.Inner.Merging.{HasBegun, IsReady};
 
-use crate::changes::Changed;
 use crate::space::Space;
 use crate::tidying::tidy;
+use changed_nodes::Changed;
 use gate_graph::Graph;
 use journal_text::{Record, accepted_steps_keep};
 use rm_base::NoMemory;

@@ -2,7 +2,6 @@
 #![tactic(auto)]
 
 mod beginning;
-mod changes;
 mod classes;
 mod drawing;
 mod effort;

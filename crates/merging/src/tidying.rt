@@ -5,10 +5,10 @@ ghost use Rattle.gate_net.specs.Net.{wire_count};
 ghost use Rattle.wire_edit.specs.Order.{IsTidy};
 ghost use Rattle.wire_edit.specs.Work.{work};
 ghost use Rattle.journal_text.specs.declared.record.Record.TheVariants as record_of;
-ghost use Rattle.merging.specs.Inner.Changing.{NotesOn};
+ghost use Rattle.changed_nodes.specs.Changing.{NotesOn};
 ghost use Rattle.merging.specs.Inner.Going.{Goes, Stays};
 
-use crate::changes::Changed;
+use changed_nodes::Changed;
 use journal_text::Record;
 use refutation::TreeBuilder;
 use rm_base::NoMemory;

@@ -8,11 +8,11 @@ ghost use Rattle.merging.specs.Inner.Going.{Follows, Goes, HasKept, IsBack, IsLe
 ghost use Rattle.merging.specs.Inner.Merging.{HasMerged, IsEffort, IsReady};
 ghost use Rattle.merging.specs.declared.space.Space.{Space as SpaceValue};
 
-use crate::changes::Changed;
 use crate::effort::Effort;
 use crate::joining::{Merge, join};
 use crate::space::Space;
 use crate::tidying::tidy;
+use changed_nodes::Changed;
 use journal_text::{Record, accepted_steps_keep};
 use rm_base::{NoMemory, Vector};
 use std::alloc::Global;

@@ -49,27 +49,39 @@ fn round(alloc: Global, lent: &mut Trial, begun: Trial, seed: u32) -> Result<boo
     Ok(before && after)
 }
 
+// The same beside a trial that has just begun.
+fn first_round(alloc: Global, lent: &mut Trial, seed: u32) -> Result<bool, Fail> {
+    let fresh = begun_tidy(alloc)?;
+    Ok(round(alloc, lent, fresh, seed)?)
+}
+
+// The first seed, if any, at which the trials aren't the same.
+fn first_other(alloc: Global, lent: &mut Trial, seeds: u32) -> Result<Option<u32>, Fail> {
+    for seed in 0..seeds {
+        if !first_round(alloc, lent, seed)? {
+            return Ok(Some(seed));
+        }
+    }
+    Ok(None)
+}
+
 #[test]
 fn a_thousand_trials(rt: HostRuntime) -> Result<(), Fail> {
-    let alloc = rt.alloc();
-    let mut lent = begun_tidy(alloc)?;
-    for seed in 0..1_000u32 {
-        let fresh = begun_tidy(alloc)?;
-        assert!(rt; round(alloc, &mut lent, fresh, seed)?);
-    }
+    let mut lent = begun_tidy(rt.alloc())?;
+    let other = first_other(rt.alloc(), &mut lent, 1_000)?;
+    assert!(rt; other.is_none(), "{other:?}");
     Ok(())
 }
 
-// Fixes the first pin of a gate and keeps that, tidied first or not.
-fn fixed_and_kept(alloc: Global, gate: u32, tidied: bool) -> Result<Trial, Fail> {
-    let mut trial = begun_tidy(alloc)?;
+// Fixes the first pin of a gate and keeps that, tidied first or not; whether the fix was made.
+fn fix_and_keep(trial: &mut Trial, gate: u32, tidied: bool) -> bool {
     let fix = Step::Fix {
         gate: NodeId(gate),
         position: 0,
         value: true,
     };
     if trial.apply(fix).is_err() {
-        return Err("no fix".into());
+        return false;
     }
     if tidied {
         for _ in 0..10u32 {
@@ -77,22 +89,43 @@ fn fixed_and_kept(alloc: Global, gate: u32, tidied: bool) -> Result<Trial, Fail>
         }
     }
     trial.keep();
+    true
+}
+
+// A trial in which that is done.
+fn fixed_and_kept(alloc: Global, gate: u32, tidied: bool) -> Result<Trial, Fail> {
+    let mut trial = begun_tidy(alloc)?;
+    if !fix_and_keep(&mut trial, gate, tidied) {
+        return Err("no fix".into());
+    }
     Ok(trial)
+}
+
+// A round beside a new trial in which the same is kept.
+fn next_round(
+    alloc: Global,
+    lent: &mut Trial,
+    gate: u32,
+    tidied: bool,
+    seed: u32,
+) -> Result<bool, Fail> {
+    let fresh = fixed_and_kept(alloc, gate, tidied)?;
+    Ok(round(alloc, lent, fresh, seed)?)
+}
+
+fn all_rounds(alloc: Global, lent: &mut Trial, gate: u32, tidied: bool) -> Result<bool, Fail> {
+    for seed in 0..50u32 {
+        if !next_round(alloc, lent, gate, tidied, seed)? {
+            return Ok(false);
+        }
+    }
+    Ok(true)
 }
 
 // After a fix is kept, each trial that is taken back finds what a new one finds.
 fn goes_on(alloc: Global, gate: u32, tidied: bool) -> Result<bool, Fail> {
     let mut lent = fixed_and_kept(alloc, gate, tidied)?;
-    if lent.room().steps != 40 {
-        return Ok(false);
-    }
-    for seed in 0..50u32 {
-        let fresh = fixed_and_kept(alloc, gate, tidied)?;
-        if !round(alloc, &mut lent, fresh, seed)? {
-            return Ok(false);
-        }
-    }
-    Ok(true)
+    Ok(lent.room().steps == 40 && all_rounds(alloc, &mut lent, gate, tidied)?)
 }
 
 #[test]

@@ -3,7 +3,7 @@ ghost use Rattle.std.specs.Prelude.{◌≤◌, ◌+◌};
 ghost use Rattle.gate_graph.specs.Circuit.{live_nodes, pins_taken};
 
 use crate::trial_scripts::{list_all, play};
-use crate::trials::{begin_trial, trial_of};
+use crate::trials::{begin_trial, refuse_all, tidies, trial_of};
 use gate_graph::Graph;
 use gate_net::Kind;
 use rm_base::NodeId;
@@ -105,12 +105,7 @@ fn follow(trial: &mut Trial, row: &Row) -> bool {
             return false;
         }
     }
-    for wanted in row.1 {
-        if trial.tidy_one() != Ok(Some(*wanted)) {
-            return false;
-        }
-    }
-    trial.tidy_one() == Ok(None) && trial.graph().wire_count() == row.2
+    tidies(trial, row.1) && trial.graph().wire_count() == row.2
 }
 
 // Whether they do so on the net of a table, and a rollback gives it back.
@@ -134,21 +129,24 @@ fn rules_at_parities(rt: HostRuntime) -> Result<(), Fail> {
     Ok(())
 }
 
+// Whether the gate 4 is of this kind, and this is its first driver.
+fn is_over(graph: &Graph, kind: Kind, driver: u32) -> bool {
+    graph.kind(NodeId(4)) == Some(kind) && graph.driver(NodeId(4), 0) == Some(NodeId(driver))
+}
+
 #[test]
 fn a_parity_becomes_a_not(rt: HostRuntime) -> Result<(), Fail> {
     let mut trial = trial_of(rt.alloc(), &PARITY, 2)?;
-    assert_eq!(rt; trial.apply(step!(fix 4 0 true)), Ok(()));
-    assert_eq!(rt; trial.apply(step!(constant 4 0)), Ok(()));
-    assert_eq!(rt; trial.graph().kind(NodeId(4)), Some(Kind::Not));
-    assert_eq!(rt; trial.graph().driver(NodeId(4), 0), Some(NodeId(3)));
+    assert!(rt; trial.apply(step!(fix 4 0 true)).is_ok());
+    assert!(rt; trial.apply(step!(constant 4 0)).is_ok());
+    assert!(rt; is_over(trial.graph(), Kind::Not, 3));
     let graph = trial.rollback();
-    assert_eq!(rt; graph.kind(NodeId(4)), Some(Kind::Xor));
-    assert_eq!(rt; graph.driver(NodeId(4), 0), Some(NodeId(2)));
+    assert!(rt; is_over(&graph, Kind::Xor, 2));
     Ok(())
 }
 
 // Steps that a parity doesn't take.
-const REFUSED: [(Step, EditRefusal); 4] = [
+const REFUSED: &[(Step, EditRefusal)] = &[
     (
         Step::Add {
             gate: NodeId(4),
@@ -182,10 +180,7 @@ const REFUSED: [(Step, EditRefusal); 4] = [
 #[test]
 fn refusals_at_parities(rt: HostRuntime) -> Result<(), Fail> {
     let mut trial = trial_of(rt.alloc(), &PARITY, 2)?;
-    for (step, refusal) in REFUSED {
-        assert_eq!(rt; trial.apply(step), Err(refusal));
-    }
-    Ok(())
+    refuse_all(&mut trial, REFUSED)
 }
 
 // Whether a script of calls is undone by a rollback.

@@ -293,6 +293,25 @@ fn make(alloc: Global, pool: &mut Pool, plain: &mut Plain, step: Step) -> Result
     }
 }
 
+// Makes the steps of the script. Fails at the first after which a list is another.
+fn make_all(alloc: Global, pool: &mut Pool, plain: &mut Plain) -> Result<(), Fail>
+    requires { NODES ≤ admitted pool.old }
+{
+    for at in 0..SCRIPT.len() {
+        if !make(alloc, pool, plain, SCRIPT[at])? {
+            return Err(Fail::new(format_args!("at step {at}")));
+        }
+    }
+    Ok(())
+}
+
+// Takes so many pins, if there are as many.
+fn take_all(pool: &mut Pool, count: u32) {
+    for _ in 0..count {
+        let _pin = pool.take();
+    }
+}
+
 #[test]
 fn script(rt: HostRuntime) -> Result<(), Fail> {
     let alloc = rt.alloc();
@@ -303,13 +322,8 @@ fn script(rt: HostRuntime) -> Result<(), Fail> {
     };
     pool.reserve(12, 5)?;
     assert_eq!(rt; pool.spare(), 12);
-    for at in 0..SCRIPT.len() {
-        let done = make(alloc, &mut pool, &mut plain, SCRIPT[at])?;
-        assert!(rt; done, "at step {at}");
-    }
-    for _ in 0..12 {
-        let _pin = pool.take();
-    }
+    make_all(alloc, &mut pool, &mut plain)?;
+    take_all(&mut pool, 12);
     assert_eq!(rt; pool.take(), Err(Full));
     Ok(())
 }

@@ -9,7 +9,7 @@ use std::alloc::Global;
 use std::test::Fail;
 use ternary_sim::Sim;
 use test_nets::worked::{ABSORBED, FOUR_GATES_AND_NOT, ONE_GATE};
-use test_nets::{build_net, fault_at};
+use test_nets::{Wiring, build_net, fault_at};
 
 // Values of the sources; what three nodes then have, good, faulty and whether equal; detected and quiet.
 #[derive(Clone, Copy)]
@@ -152,32 +152,33 @@ fn holds(alloc: Global, graph: &Graph, pin: (u32, u32, bool), case: &Case) -> Re
     )
 }
 
-#[test]
-fn four_gates_and_a_not(rt: HostRuntime) -> Result<(), Fail> {
-    let graph = build_net(rt.alloc(), &FOUR_GATES_AND_NOT)?;
-    for at in 0..CASES.len() {
-        let right = holds(rt.alloc(), &graph, FAULT, &CASES[at])?;
-        assert!(rt; right, "at case {at}");
+// Fails at the first case that reads otherwise.
+fn hold(alloc: Global, net: &Wiring, pin: (u32, u32, bool), cases: &[Case]) -> Result<(), Fail> {
+    let graph = build_net(alloc, net)?;
+    let mut at = 0u32;
+    for case in cases {
+        if !holds(alloc, &graph, pin, case)? {
+            return Err(Fail::new(format_args!("at case {at}")));
+        }
+        at = at.saturating_add(1);
     }
     Ok(())
+}
+
+#[test]
+fn four_gates_and_a_not(rt: HostRuntime) -> Result<(), Fail> {
+    let cases = CASES;
+    hold(rt.alloc(), &FOUR_GATES_AND_NOT, FAULT, &cases)
 }
 
 #[test]
 fn a_gate_beside_its_source(rt: HostRuntime) -> Result<(), Fail> {
-    let graph = build_net(rt.alloc(), &ABSORBED)?;
-    for at in 0..COVERED.len() {
-        let right = holds(rt.alloc(), &graph, COVERED_FAULT, &COVERED[at])?;
-        assert!(rt; right, "at case {at}");
-    }
-    Ok(())
+    let cases = COVERED;
+    hold(rt.alloc(), &ABSORBED, COVERED_FAULT, &cases)
 }
 
 #[test]
 fn one_gate_alone(rt: HostRuntime) -> Result<(), Fail> {
-    let graph = build_net(rt.alloc(), &ONE_GATE)?;
-    for at in 0..ALONE.len() {
-        let right = holds(rt.alloc(), &graph, ALONE_FAULT, &ALONE[at])?;
-        assert!(rt; right, "at case {at}");
-    }
-    Ok(())
+    let cases = ALONE;
+    hold(rt.alloc(), &ONE_GATE, ALONE_FAULT, &cases)
 }

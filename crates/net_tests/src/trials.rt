@@ -59,90 +59,154 @@ fn is_read(graph: &Graph, node: u32, places: &[(u32, u32)]) -> bool {
     at == places.len()
 }
 
+// Steps, and why they are refused. Fails at the first that isn't refused so, and where a step was made.
+pub(crate) fn refuse_all(trial: &mut Trial, rows: &[(Step, EditRefusal)]) -> Result<(), Fail> {
+    for (step, refusal) in rows {
+        if trial.apply(*step) != Err(*refusal) {
+            return Err(Fail::new(format_args!("{step:?}")));
+        }
+    }
+    if trial.steps().is_empty() {
+        Ok(())
+    } else {
+        Err("a step was made".into())
+    }
+}
+
+const REFUSED: &[(Step, EditRefusal)] = &[
+    (
+        Step::Add {
+            gate: NodeId(6),
+            node: NodeId(9),
+        },
+        EditRefusal::Cycle {
+            from: NodeId(6),
+            to: NodeId(9),
+        },
+    ),
+    (
+        Step::Add {
+            gate: NodeId(6),
+            node: NodeId(2),
+        },
+        EditRefusal::AlreadyPin {
+            gate: NodeId(6),
+            node: NodeId(2),
+        },
+    ),
+    (
+        Step::Add {
+            gate: NodeId(2),
+            node: NodeId(3),
+        },
+        EditRefusal::WrongKind { node: NodeId(2) },
+    ),
+    (
+        Step::Add {
+            gate: NodeId(6),
+            node: NodeId(40),
+        },
+        EditRefusal::NoNode { node: NodeId(40) },
+    ),
+];
+
 #[test]
 fn refusals(rt: HostRuntime) -> Result<(), Fail> {
-    let alloc = rt.alloc();
-    let mut trial = trial_of(alloc, &FOUR_GATES, 2)?;
-    let cycle = EditRefusal::Cycle {
-        from: NodeId(6),
-        to: NodeId(9),
-    };
-    let already = EditRefusal::AlreadyPin {
-        gate: NodeId(6),
-        node: NodeId(2),
-    };
-    let wrong = EditRefusal::WrongKind { node: NodeId(2) };
-    let none = EditRefusal::NoNode { node: NodeId(40) };
-    assert_eq!(rt; trial.apply(add_step(6, 9)), Err(cycle));
-    assert_eq!(rt; trial.apply(add_step(6, 2)), Err(already));
-    assert_eq!(rt; trial.apply(add_step(2, 3)), Err(wrong));
-    assert_eq!(rt; trial.apply(add_step(6, 40)), Err(none));
-    assert_eq!(rt; trial.steps().len(), 0);
-    Ok(())
+    let mut trial = trial_of(rt.alloc(), &FOUR_GATES, 2)?;
+    refuse_all(&mut trial, REFUSED)
 }
+
+const WITHOUT_ROOM: &[(Step, EditRefusal)] = &[
+    (
+        Step::Fix {
+            gate: NodeId(6),
+            position: 5,
+            value: true,
+        },
+        EditRefusal::NoPin {
+            gate: NodeId(6),
+            position: 5,
+        },
+    ),
+    (
+        Step::Const {
+            gate: NodeId(6),
+            position: 0,
+        },
+        EditRefusal::RuleNotMet {
+            rule: Rule::Const,
+            node: NodeId(6),
+        },
+    ),
+    (
+        Step::Add {
+            gate: NodeId(9),
+            node: NodeId(2),
+        },
+        EditRefusal::Full,
+    ),
+];
 
 #[test]
 fn pins_and_room(rt: HostRuntime) -> Result<(), Fail> {
-    let alloc = rt.alloc();
-    let mut trial = trial_of(alloc, &FOUR_GATES, 0)?;
-    let fix = Step::Fix {
-        gate: NodeId(6),
-        position: 5,
-        value: true,
-    };
-    let no_pin = EditRefusal::NoPin {
-        gate: NodeId(6),
-        position: 5,
-    };
-    let rule = Step::Const {
-        gate: NodeId(6),
-        position: 0,
-    };
-    let not_met = EditRefusal::RuleNotMet {
-        rule: Rule::Const,
-        node: NodeId(6),
-    };
-    assert_eq!(rt; trial.apply(fix), Err(no_pin));
-    assert_eq!(rt; trial.apply(rule), Err(not_met));
-    assert_eq!(rt; trial.apply(add_step(9, 2)), Err(EditRefusal::Full));
-    Ok(())
+    let mut trial = trial_of(rt.alloc(), &FOUR_GATES, 0)?;
+    refuse_all(&mut trial, WITHOUT_ROOM)
+}
+
+// Whether an addition is made, but not again.
+fn adds_once(trial: &mut Trial) -> bool {
+    if trial.apply(add_step(9, 2)).is_err() || trial.apply(add_step(9, 2)).is_ok() {
+        return false;
+    }
+    is_read(trial.graph(), 2, &[(6, 0), (7, 0), (9, 2)])
+        && trial.graph().wire_count() == 9
+        && trial.steps().len() == 1
+}
+
+// Whether nothing of it is left.
+fn is_as_before(graph: &Graph) -> bool {
+    graph.wire_count() == 8
+        && is_read(graph, 2, &[(6, 0), (7, 0)])
+        && is_read(graph, 8, &[(9, 0)])
+        && graph.epoch() == 0
 }
 
 #[test]
 fn add_and_back(rt: HostRuntime) -> Result<(), Fail> {
-    let alloc = rt.alloc();
-    let mut trial = trial_of(alloc, &FOUR_GATES, 2)?;
-    assert_eq!(rt; trial.apply(add_step(9, 2)), Ok(()));
-    assert!(rt; trial.apply(add_step(9, 2)).is_err());
-    assert!(rt; is_read(trial.graph(), 2, &[(6, 0), (7, 0), (9, 2)]));
-    assert_eq!(rt; trial.graph().wire_count(), 9);
-    assert_eq!(rt; trial.steps().len(), 1);
+    let mut trial = trial_of(rt.alloc(), &FOUR_GATES, 2)?;
+    assert!(rt; adds_once(&mut trial));
     let graph = trial.rollback();
-    assert_eq!(rt; graph.wire_count(), 8);
-    assert!(rt; is_read(&graph, 2, &[(6, 0), (7, 0)]));
-    assert!(rt; is_read(&graph, 8, &[(9, 0)]));
-    assert_eq!(rt; graph.epoch(), 0);
+    assert!(rt; is_as_before(&graph));
     Ok(())
 }
 
+// Whether these are the steps that tidy the net, in order.
+pub(crate) fn tidies(trial: &mut Trial, steps: &[Step]) -> bool {
+    for wanted in steps {
+        if trial.tidy_one() != Ok(Some(*wanted)) {
+            return false;
+        }
+    }
+    matches!(trial.tidy_one(), Ok(None))
+}
+
+const SAME: Step = Step::Same {
+    gate: NodeId(3),
+    position: 1,
+};
+
+const TIDIED: &[Step] = &[
+    SAME,
+    Step::OnePin { gate: NodeId(3) },
+    Step::Dead { gate: NodeId(3) },
+];
+
 #[test]
 fn tidying(rt: HostRuntime) -> Result<(), Fail> {
-    let alloc = rt.alloc();
-    let mut trial = trial_of(alloc, &BUFFER, 2)?;
-    let same = Step::Same {
-        gate: NodeId(3),
-        position: 1,
-    };
-    let single = Step::OnePin { gate: NodeId(3) };
-    let dead = Step::Dead { gate: NodeId(3) };
-    assert_eq!(rt; first_rule(trial.graph()), Some(same));
-    assert_eq!(rt; trial.tidy_one(), Ok(Some(same)));
-    assert_eq!(rt; trial.tidy_one(), Ok(Some(single)));
-    assert_eq!(rt; trial.tidy_one(), Ok(Some(dead)));
-    assert_eq!(rt; trial.tidy_one(), Ok(None));
+    let mut trial = trial_of(rt.alloc(), &BUFFER, 2)?;
+    assert!(rt; first_rule(trial.graph()) == Some(SAME));
+    assert!(rt; tidies(&mut trial, TIDIED));
     let graph = trial.commit();
-    assert_eq!(rt; graph.epoch(), 1);
-    assert_eq!(rt; graph.wire_count(), 0);
-    assert_eq!(rt; first_rule(&graph), None);
+    assert!(rt; graph.epoch() == 1 && graph.wire_count() == 0 && first_rule(&graph).is_none());
     Ok(())
 }

@@ -89,13 +89,13 @@ went_within tries limit all after (Settled more) sum is le = omega (arith, sum, 
 went_within tries limit all after (TriesSpent more at) sum is le = omega (arith, sum, is)
 
 -- what goes without any addition, and the first call, are the first round
-pub first_run : (law : RunBegins) (join : RunsJoin) (texts : TextsAppend) (start swept closed : Circuit) (settings : Settings) (report : Report) (made : Made) (after : Round) (old one two new : Option Files) (name : List ℕ)
+pub first_run : (law : RunBegins) (join : RunsJoin) (texts : TextsAppend) (start swept closed : Circuit) (settings : Settings) (depth : ℕ) (report : Report) (made : Made) (after : Round) (old one two new : Option Files) (name : List ℕ)
     → pins_taken start + live_nodes start ≤ 1048576 → wire_count (net_of start) ≤ 65536
-    → HasRemoved (net_of start) (net_of swept) settings.depth made old one name → IsWithin start swept
+    → HasRemoved (net_of start) (net_of swept) depth made old one name → IsWithin start swept
     → HasClosed (net_of swept) (net_of closed) report one two name → report.local ≤ 35184372088832 → IsNoFuller swept closed
     → HasGoneOn settings closed (sum_of made (made_in report)) 0 settings.tries None after two new name
     → HasRecorded (net_of start) settings after old new name
-first_run law join texts start swept closed settings report made after old one two new name few wires r within c small fuller g =
+first_run law join texts start swept closed settings depth report made after old one two new name few wires r within c small fuller g =
     let first : List Record = r.records ++ c.records in
     let records : List Record = r.records ++ (c.records ++ g.optimised.records) in
     let same : first ++ g.optimised.records ≡ records = append_assoc r.records c.records g.optimised.records in

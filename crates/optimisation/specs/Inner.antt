@@ -2,7 +2,7 @@
 pub mod Begun
 pub mod Ended
 pub mod Filled
-pub mod Halts
+pub mod RunErrors
 pub mod Ran
 pub mod Staged
 pub mod Turned

@@ -4,6 +4,6 @@ pub mod Begun
 pub mod Stages
 pub mod Turns
 pub mod Whole
-pub mod Halts
+pub mod RunErrors
 pub mod Ranges
 pub mod Inner

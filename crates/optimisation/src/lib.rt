@@ -2,13 +2,13 @@
 //! faults that remain, and the end of the journal.
 #![tactic(auto)]
 
-mod halt;
 mod optimised;
 mod rounds;
+mod run_error;
 mod stages;
 mod turns;
 mod whole;
 
-pub use halt::Halt;
 pub use optimised::{Figures, Optimised};
+pub use run_error::RunError;
 pub use whole::optimised_model;

@@ -19,7 +19,7 @@ ghost use Rattle.optimisation.specs.Ranges.{AreSettings};
 ghost use Rattle.cover_decompose.specs.Limits.{most_pins};
 
 use candidate_wires::Outcome;
-use closing_pass::{Report, close_faults};
+use closing_pass::{Report, close_before_tries, close_faults};
 use gate_graph::Graph;
 use journal_text::{Stop, runs_join, texts_append};
 use rar_loop::{optimise, remove_redundant, run_begins, run_goes_on};
@@ -141,6 +141,14 @@ fn further_round<S: Shelf>(
     })
 }
 
+/// The depth of a sweep before the first addition: 1 at least, as what a sweep leaves is found by searches, which cost more.
+pub(crate) fn sweep_depth(settings: &Settings) -> u8
+    requires { settings.now.depth ≤ 2 }
+    ensures { result ≤ 2 }
+{
+    settings.depth.max(1)
+}
+
 // The first round: what is redundant without any addition goes, by a sweep and a closing pass, whose vectors serve the
 // addition loop; and then the loop with all tries.
 fn first_round<R: Threads + Sync, G: Gate, S: Shelf>(
@@ -168,8 +176,17 @@ fn first_round<R: Threads + Sync, G: Gate, S: Shelf>(
     run_begins();
     runs_join();
     texts_append();
-    let (swept, made) = remove_redundant(alloc, graph, settings.depth, shelf, journal, work)?;
-    let (closed, report) = close_faults(rt, alloc, swept, settings, gate, shelf, journal, work)?;
+    let (swept, made) = remove_redundant(
+        alloc,
+        graph,
+        sweep_depth(settings),
+        shelf,
+        journal,
+        work,
+    )?;
+    let (closed, report) = close_before_tries(
+        rt, alloc, swept, settings, gate, shelf, journal, work,
+    )?;
     let round = further_round(
         alloc,
         closed,

@@ -14,7 +14,7 @@ ghost use Rattle.optimisation.specs.Allowed.{IsAllowed};
 ghost use Rattle.optimisation.specs.Ranges.{AreSettings};
 ghost use Rattle.cover_decompose.specs.Limits.{most_pins};
 
-use crate::rounds::{Round, Rounds, go_rounds};
+use crate::rounds::{Round, Rounds, go_rounds, sweep_depth};
 use gate_graph::Graph;
 use journal_ranges::records_fit;
 use journal_text::{
@@ -137,7 +137,14 @@ fn sweep_and_merge<S: Shelf>(
 {
     runs_join();
     texts_append();
-    let (swept, made) = remove_redundant(alloc, graph, settings.depth, shelf, journal, work)?;
+    let (swept, made) = remove_redundant(
+        alloc,
+        graph,
+        sweep_depth(settings),
+        shelf,
+        journal,
+        work,
+    )?;
     let merged = merge_gates(alloc, swept, settings, shelf, journal, work)?;
     Ok(Merged {
         graph: merged.graph,

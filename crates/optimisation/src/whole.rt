@@ -15,19 +15,19 @@ ghost use Rattle.journal_text.specs.Text.{entry_text};
 ghost use Rattle.journal_text.specs.declared.record.Entry.TheVariants.{Header as HeaderEntry};
 ghost use Rattle.optimisation.specs.Begun.{HasBegun};
 ghost use Rattle.optimisation.specs.Inner.Begun.{BeginsHeader};
-ghost use Rattle.optimisation.specs.Inner.Halts.{IsHalt};
+ghost use Rattle.optimisation.specs.Inner.RunErrors.{IsRunError};
 ghost use Rattle.optimisation.specs.Inner.Filled.{IsFilled, IsLeft};
 ghost use Rattle.optimisation.specs.Allowed.{IsAllowed};
 ghost use Rattle.optimisation.specs.Ranges.{AreSettings};
 ghost use Rattle.optimisation.specs.Tests.{hits_among, spents_among};
 ghost use Rattle.optimisation.specs.Whole.{IsWhole};
-ghost use Rattle.optimisation.specs.declared.halt.Halt.TheVariants as halt;
+ghost use Rattle.optimisation.specs.declared.run_error.RunError.TheVariants as run_error;
 ghost use Rattle.closing_pass.specs.Recording.{verdict_records};
 ghost use Rattle.cover_decompose.specs.Limits.{most_pins};
 
-use crate::halt::Halt;
 use crate::optimised::{Figures, Optimised};
 use crate::rounds::Rounds;
+use crate::run_error::RunError;
 use crate::turns::go_turns;
 use closing_pass::{Report, closed_are_recordable, write_verdicts};
 use cover_decompose::{decompose, decompositions_stand};
@@ -49,13 +49,13 @@ fn open_journal<S: Shelf>(
     shelf: &mut S,
     journal: &str,
     budget: u32,
-) -> Result<(), Halt>
+) -> Result<(), RunError>
     requires budget { (1 ≤ budget) × (budget ≤ 1048576) }
     ensures opened { OnOk result (S.files shelf.new ≡ option_map (put_file journal.now (entry_text (HeaderEntry budget))) (S.files shelf.old)) }
     ensures there { OnOk result (IsThere (S.files shelf.new) journal.now) }
     ensures begun { OnErr result (BeginsHeader budget journal.now (S.files shelf.old) (S.files shelf.new)) }
-    ensures halted { IfErr result IsHalt }
-    ensures failed { result ≡ Err halt.Failed → Rose (S.faults shelf.old) (S.faults shelf.new) }
+    ensures halted { IfErr result IsRunError }
+    ensures failed { result ≡ Err run_error.Failed → Rose (S.faults shelf.old) (S.faults shelf.new) }
     ensures later { S.faults shelf.old ≤ S.faults shelf.new }
 {
     shelf.create(journal)?;
@@ -127,7 +127,7 @@ pub fn optimised_model<R: Threads + Sync, G: Gate, S: Shelf>(
     gate: &G,
     shelf: &mut S,
     journal: &str,
-) -> Result<Optimised, Halt>
+) -> Result<Optimised, RunError>
     requires formed { IsWellFormed model.now }
     requires ranked { first_without_rank model.now ≡ None }
     requires covers { length model.now.covers < 2 ^ 32 }
@@ -137,9 +137,9 @@ pub fn optimised_model<R: Threads + Sync, G: Gate, S: Shelf>(
     requires settings { AreSettings settings.now }
     ensures whole { IfOk result (λ o. IsWhole model.now settings.now (net_of o.graph) o.figures (S.files shelf.old) (S.files shelf.new) journal.now) }
     ensures within { OnOk result (decomposed model.now ≤ most_pins) }
-    ensures over { (pins : ℕ) → result ≡ Err (halt.Limit pins) → (pins ≡ decomposed model.now) × ((most_pins < decomposed model.now) × (S.files shelf.new ≡ S.files shelf.old)) }
+    ensures over { (pins : ℕ) → result ≡ Err (run_error.Limit pins) → (pins ≡ decomposed model.now) × ((most_pins < decomposed model.now) × (S.files shelf.new ≡ S.files shelf.old)) }
     ensures begun { IfErr result (λ _. HasBegun model.now settings.now.budget journal.now (S.files shelf.old) (S.files shelf.new)) }
-    ensures failed { result ≡ Err halt.Failed → Rose (S.faults shelf.old) (S.faults shelf.new) }
+    ensures failed { result ≡ Err run_error.Failed → Rose (S.faults shelf.old) (S.faults shelf.new) }
     ensures later { S.faults shelf.old ≤ S.faults shelf.new }
 {
     decompositions_stand();

@@ -2,7 +2,7 @@
 use rm_base::Settings;
 use std::alloc::Global;
 use std::test::Fail;
-use word_reading::{Command, WordFault, read_words};
+use word_reading::{Command, UsageError, read_words};
 
 // A line of words parted by blanks; `~` stands for the empty word.
 fn words(alloc: Global, line: &str) -> Result<Vec<String>, Fail> {
@@ -111,8 +111,8 @@ pub(crate) fn reads(alloc: Global, line: &str, wanted: &str) -> Result<bool, Fai
     let list = words(alloc, line)?;
     match read_words(alloc, list.as_slice()) {
         Ok(command) => Ok(command_text(alloc, command)?.as_str() == wanted),
-        Err(WordFault::Refused) => Ok(wanted == "refused"),
-        Err(WordFault::NoMemory) => Ok(false),
+        Err(UsageError::Refused) => Ok(wanted == "refused"),
+        Err(UsageError::NoMemory) => Ok(false),
     }
 }
 

@@ -5,7 +5,7 @@ ghost use Rattle.rambo_cli.specs.Judge.{judge_problem, only_record};
 ghost use Rattle.rambo_cli.specs.Problems.{audit_problem, piece_problem, status_of};
 ghost use Rattle.rambo_cli.specs.Inner.Equal.{miter_problem};
 ghost use Rattle.rambo_cli.specs.Inner.Optcare.{care_problem};
-ghost use Rattle.rambo_cli.specs.Inner.Problems.{halt_problem, outside_problem, read_problem, stop_problem, word_problem};
+ghost use Rattle.rambo_cli.specs.Inner.Problems.{run_error_problem, outside_problem, read_problem, stop_problem, word_problem};
 ghost use Rattle.rambo_cli.specs.declared.problem.Problem.TheVariants as problem;
 
 use accepted_steps::Stop as StepsStop;
@@ -18,11 +18,11 @@ use journal_check::{JournalRefusal, Why};
 use journal_convert::ConvertProblem;
 use journal_reading::{JournalFault, Version};
 use journal_text::{JournalFault as LineFault, Stop};
-use optimisation::Halt;
+use optimisation::RunError;
 use proof_check::JudgeRefusal;
 use rm_base::outside::OutsideFault;
 use rm_base::{NoMemory, Place};
-use word_reading::WordFault;
+use word_reading::UsageError;
 
 /// What is found of a text.
 #[derive(Clone, Copy, Debug, PartialEq, Eq)]
@@ -154,17 +154,17 @@ impl From<ReadRefusal> for Problem {
     }
 }
 
-impl From<Halt> for Problem {
-    ghost from_gives = { λ e p. p ≡ halt_problem e };
+impl From<RunError> for Problem {
+    ghost from_gives = { λ e p. p ≡ run_error_problem e };
 
-    fn from(halt: Halt) -> Self {
-        match halt {
-            Halt::Limit { pins } => Problem::Limit {
+    fn from(run_error: RunError) -> Self {
+        match run_error {
+            RunError::Limit { pins } => Problem::Limit {
                 quantity: Quantity::Pins,
                 count: pins,
             },
-            Halt::Failed => Problem::Fault,
-            Halt::NoMemory => Problem::Memory,
+            RunError::Failed => Problem::Fault,
+            RunError::NoMemory => Problem::Memory,
         }
     }
 }
@@ -370,13 +370,13 @@ impl From<Stop> for Problem {
     }
 }
 
-impl From<WordFault> for Problem {
+impl From<UsageError> for Problem {
     ghost from_gives = { λ e p. p ≡ word_problem e };
 
-    fn from(fault: WordFault) -> Self {
+    fn from(fault: UsageError) -> Self {
         match fault {
-            WordFault::Refused => Problem::Words,
-            WordFault::NoMemory => Problem::Memory,
+            UsageError::Refused => Problem::Words,
+            UsageError::NoMemory => Problem::Memory,
         }
     }
 }

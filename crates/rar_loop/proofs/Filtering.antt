@@ -2,7 +2,7 @@
 -- has a set of facts closed at every depth.
 use Rattle.std.proofs.Common.{◌≡◌, ◌≢◌, ◌≤◌, ◌++◌, length, arith, ℕ, zero, suc, ◌<◌, ◌^◌, ◌⊎◌, inl, inr, Bool, true, false, not, IsTrue, Option, Some, None, List, [], ◌∷◌, replicate, refl, sym, ◌∙◌, ap, subst, w64}
 use Rattle.std.specs.Int.{trailing_zeros}
-use Rattle.std.specs.Prelude.{bit_and, slice_get, slice_index, slice_set, if◌then◌else◌}
+use Rattle.std.specs.Prelude.{IfSome, bit_and, slice_get, slice_index, slice_set, if◌then◌else◌}
 use Rattle.rm_base.specs.declared.numbers.NodeId.{NodeId}
 use Rattle.gate_net.specs.Net.{Net, drivers_of, IsWellFormed}
 use Rattle.gate_net.specs.Values.{Detects, HasPin}
@@ -14,6 +14,7 @@ use Rattle.std.proofs.lemmas.Option.{slice_get_within}
 use Rattle.fault_sim.specs.BlockStates.{AreSimulated, BlockState}
 use Rattle.fault_sim.specs.LaneStates.{Fits, IsSimulated, LaneState}
 use Rattle.fault_sim.proofs.Public.{first_lane, lane_and, lane_not, lane_zero}
+use Rattle.fault_sim.specs.Observing.{AreObservabilities}
 use Rattle.fault_sim.specs.Words.{assignment, lane, lane_values}
 use Rattle.wire_edit.proofs.Public.{is_live_there}
 use Rattle.wire_edit.specs.declared.steps.Step.TheVariants.{Add, NewNot}
@@ -24,7 +25,8 @@ use Rattle.wire_edit.specs.Tests.{control_of}
 use Rattle.candidate_wires.specs.declared.candidate.Candidate.{Candidate}
 use Rattle.candidate_wires.specs.Gains.{net_for, wire_for, with_candidate}
 use Rattle.rar_loop.specs.declared.vectors.Vectors.{Vectors}
-use Rattle.rar_loop.specs.Inner.Kept.{AreAsked, AreFor, HasKept, IsTurned, lanes_with, wanted}
+use Rattle.rar_loop.specs.declared.seeking.Seeker.{Seeker}
+use Rattle.rar_loop.specs.Inner.Kept.{AreAsked, AreFor, HasKept, IsTurned, Seeks, lanes_with, wanted}
 use Rattle.rar_loop.specs.Rows.{stuck}
 use Rattle.rar_loop.specs.Inner.Trying.{IsNewPinOpen, MayAdd}
 use Rattle.rar_loop.proofs.Adding.{add_applies, control_is, new_pin_reads, node_of}
@@ -76,13 +78,15 @@ kept_more net words old new gate word turned here kept g w e i h t = elim (kept 
   | inr s ↦ turned g w s i h t
 ]
 
-pub for_more : (net : Net) (v w : Vectors) (gate word : ℕ) → AreFor v net → w.lanes ≡ v.lanes → w.found ≡ v.found → AreAsked w.turned.items w.asked.items → ((i : ℕ) → i < 64 → IsTrue (lane i word) → IsTurned net gate (assignment v.lanes.words i)) → HasKept v.turned.items w.turned.items gate word → AreFor w net
-for_more net v w gate word for same found listed here kept = record {
+pub for_more : (net : Net) (v w : Vectors) (gate word : ℕ) → AreFor v net → w.lanes ≡ v.lanes → AreObservabilities w.notes net v.lanes.words → w.found ≡ v.found → w.seeker ≡ v.seeker → AreAsked w.turned.items w.asked.items → ((i : ℕ) → i < 64 → IsTrue (lane i word) → IsTurned net gate (assignment v.lanes.words i)) → HasKept v.turned.items w.turned.items gate word → AreFor w net
+for_more net v w gate word for same noted found seeker listed here kept = record {
   fits = subst (λ (s : LaneState). Fits s net) (sym same) for.fits;
   simulated = subst (λ (s : LaneState). IsSimulated s net) (sym same) for.simulated;
+  noted = subst (λ (s : LaneState). AreObservabilities w.notes net s.words) (sym same) noted;
   turned = subst (λ (s : LaneState). AreTurned net s.words w.turned.items) (sym same) (kept_more net v.lanes.words v.turned.items w.turned.items gate word for.turned here kept);
   listed = listed;
   found = subst (λ (s : BlockState). AreSimulated s net) (sym found) for.found;
+  seeks = subst (λ (s : Option Seeker). IfSome s (Seeks net)) (sym seeker) for.seeks;
 }
 
 -- WHAT IS FORGOTTEN

@@ -15,6 +15,6 @@ pub mod RunLaws
 pub mod WireFaults
 pub mod Filtering
 pub mod Spacing
-pub mod Noting
+pub mod Differing
 pub mod Exchanges
 pub mod Turning

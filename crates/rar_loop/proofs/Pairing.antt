@@ -20,10 +20,10 @@ use Rattle.journal_text.specs.declared.record.Record.{Record}
 use Rattle.rar_loop.specs.Sizes.{IsSame}
 use Rattle.rar_loop.specs.Trying.{IsLent}
 use Rattle.rar_loop.specs.Inner.Trying.{MayAdd, IsGained, IsBetter, IsBack, IsAhead}
-use Rattle.rar_loop.specs.declared.walking.Tour.{Tour}
-use Rattle.rar_loop.specs.declared.walking.Tour.TheVariants as tour
+use Rattle.rar_loop.specs.declared.walking.WalkOutcome.{WalkOutcome}
+use Rattle.rar_loop.specs.declared.walking.WalkOutcome.TheVariants as walk_outcome
 use Rattle.wire_edit.specs.Tried.{Tried}
-use Rattle.rar_loop.specs.Inner.Walking.{AreTried, IsTargetTour, IsTour, IsWalk}
+use Rattle.rar_loop.specs.Inner.Walking.{AreTried, IsTargetOutcome, IsWalkOutcome, IsWalk}
 use Rattle.rar_loop.proofs.Sizing.{within_same, within_then}
 use Rattle.rm_base.proofs.Public.{stands_below, take_one_more}
 
@@ -140,19 +140,19 @@ back_then t u v a b = record { same = same_then t.graph u.graph v.graph a.same b
 pub ahead_back : (t u v : Tried) (pair : Pair) (depth : ℕ) (records : List Record) → IsBack t u → IsAhead u pair depth records v → IsAhead t pair depth records v
 ahead_back t u v pair depth records back a = record { better = better_back t.graph u.graph v.graph pair depth records back.same a.better; lent = a.lent }
 
-pub tour_back : (t u v : Tried) (target : Fault) (depth left after : ℕ) (end : Tour) → IsBack t u → IsTargetTour u target depth left after v end → IsTargetTour t target depth left after v end
-tour_back t u v target depth left after tour.Done back w =
+pub walk_outcome_back : (t u v : Tried) (target : Fault) (depth left after : ℕ) (end : WalkOutcome) → IsBack t u → IsTargetOutcome u target depth left after v end → IsTargetOutcome t target depth left after v end
+walk_outcome_back t u v target depth left after walk_outcome.Done back w =
     (back_then t u v back w.0, subst (λ (n : Net). (here : List Candidate) × (AreTried n target here (length here) × (after + length here ≡ left))) back.same.net w.1)
-tour_back t u v target depth left after (tour.Spent at work) back w =
+walk_outcome_back t u v target depth left after (walk_outcome.Spent at work) back w =
     (back_then t u v back w.0, (w.1.0, (w.1.1.0, (subst (λ (n : Net). AreTried n target w.1.0 w.1.1.0) back.same.net w.1.1.1.0, w.1.1.1.1))))
-tour_back t u v target depth left after (tour.Gained pair records) back w =
+walk_outcome_back t u v target depth left after (walk_outcome.Gained pair records) back w =
     (w.0, (w.1.0, (subst (λ (n : Net). AreTried n target w.0 w.1.0) back.same.net w.1.1.0, (w.1.1.1.0, (w.1.1.1.1.0, (w.1.1.1.1.1.0, ahead_back t u v pair depth records.items back w.1.1.1.1.1.1))))))
 
--- what a tour of a trial comes to on its graph
-pub walk_here : (t u : Tried) (start : Option Fault) (depth left after : ℕ) (end : Tour) → IsTour t start depth left after u end → IsWalk t.graph start depth left after u.graph end
-walk_here t u start depth left after tour.Done w = (w.0.same, w.1)
-walk_here t u start depth left after (tour.Spent at work) w = (w.0.same, w.1)
-walk_here t u start depth left after (tour.Gained pair records) w = (w.0, (w.1.0, (w.1.1.0, (w.1.1.1.0, w.1.1.1.1.better))))
+-- what a walk through the pairs of a trial comes to on its graph
+pub walk_here : (t u : Tried) (start : Option Fault) (depth left after : ℕ) (end : WalkOutcome) → IsWalkOutcome t start depth left after u end → IsWalk t.graph start depth left after u.graph end
+walk_here t u start depth left after walk_outcome.Done w = (w.0.same, w.1)
+walk_here t u start depth left after (walk_outcome.Spent at work) w = (w.0.same, w.1)
+walk_here t u start depth left after (walk_outcome.Gained pair records) w = (w.0, (w.1.0, (w.1.1.0, (w.1.1.1.0, w.1.1.1.1.better))))
 
 -- PAIRS
 pub pairs_then : (net : Net) (ts : List Fault) (t : Fault) (ps : List Pair) (here : List Candidate) → ArePairsOf net ts ps → AreCandidatesOf net t here → ArePairsOf net (ts ++ t ∷ []) (ps ++ map (paired t) here)

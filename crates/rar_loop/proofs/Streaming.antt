@@ -17,7 +17,7 @@ use Rattle.journal_text.specs.Joining.{TextsAppend, RunsJoin}
 use Rattle.journal_ranges.proofs.Public.{fits_then}
 use Rattle.journal_ranges.specs.Ranges.{AreFit}
 use Rattle.journal_text.specs.Runs.{AcceptedTo, steps_of, none_made, made_by, HasAppended, HasAppendedPart, IsStopped, records_text}
-use Rattle.rar_loop.specs.declared.walking.Tour.TheVariants.{Done, Spent, Gained}
+use Rattle.rar_loop.specs.declared.walking.WalkOutcome.TheVariants.{Done, Spent, Gained}
 use Rattle.rar_loop.specs.Sizes.{IsSame, most_steps}
 use Rattle.rar_loop.specs.Inner.Walking.{IsWalk}
 use Rattle.rar_loop.specs.Ended.{IsCutShort, IsImproved, IsOptimised, AreFew, turn_at}

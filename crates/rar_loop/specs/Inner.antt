@@ -1,5 +1,4 @@
 -- Definitions that no public contract reaches: words of private contracts, of invariants, and of laws for proofs.
-pub mod Changing
 pub mod Exchanging
 pub mod Going
 pub mod Improving

@@ -6,11 +6,11 @@ ghost use Rattle.gate_net.specs.Net.{gate_count, source_count, wire_count};
 ghost use Rattle.rar_loop.specs.Inner.Improving.{HasBegun};
 ghost use Rattle.rar_loop.specs.Inner.Spaces.{IsReady};
 
-use crate::changes::Changed;
 use crate::limits::raise;
 use crate::sweeping::sweep;
 use crate::tidying::tidy;
 use crate::workspace::{Workspace, into_graph};
+use changed_nodes::Changed;
 use gate_graph::Graph;
 use journal_text::{Record, accepted_steps_keep};
 use rm_base::NoMemory;

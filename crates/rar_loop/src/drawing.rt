@@ -1,7 +1,7 @@
 //! Vectors that are drawn; where the sources are few, all assignments.
 ghost use Rattle.std.specs.Prelude.{◌≡◌, IfOk, length};
 
-use rm_base::NoMemory;
+use rm_base::{NoMemory, Vector};
 use std::alloc::Global;
 
 // The next number (splitmix64: Steele, Lea and Flood 2014).
@@ -99,6 +99,29 @@ pub(crate) fn drawn_words(alloc: Global, count: usize, block: usize) -> Result<V
         .wrapping_add(1);
     for word in words.iter_mut() {
         *word = draw_word(&mut state);
+    }
+    Ok(words)
+}
+
+// The word of a source whose value in the vector is this: most lanes have it, and the first one does.
+fn word_like(value: bool, state: &mut u64) -> u64 {
+    let others = draw(state) & draw(state) & draw(state);
+    let word = if value { u64::MAX } else { 0 };
+    word ^ (others & (u64::MAX - 1))
+}
+
+/// The words of a block that has the vector in its first lane, and vectors that are like it in the others.
+pub(crate) fn words_like(
+    alloc: Global,
+    vector: &Vector,
+    number: usize,
+) -> Result<Vec<u64>, NoMemory> {
+    let mut words = Vec::with_capacity(alloc, vector.len())?;
+    let mut state = (number as u64)
+        .wrapping_mul(0xd134_2543_de82_ef95)
+        .wrapping_add(1);
+    for value in vector.values() {
+        words.push(word_like(*value, &mut state))?;
     }
     Ok(words)
 }

@@ -7,12 +7,12 @@ ghost use Rattle.refutation.specs.Branches.{AreAccepted};
 ghost use Rattle.wire_edit.specs.Order.{IsTidy};
 ghost use Rattle.wire_edit.specs.Work.{work};
 ghost use Rattle.wire_edit.specs.Tidying.{TidiesTo};
-ghost use Rattle.rar_loop.specs.Inner.Changing.{NotesOn};
+ghost use Rattle.changed_nodes.specs.Changing.{NotesOn};
 ghost use Rattle.rar_loop.specs.Inner.Going.{Goes, HasFixed};
 ghost use Rattle.wire_edit.specs.Removals.{HasFreePin, ReadsNoConstants};
 
-use crate::changes::Changed;
 use crate::tidying::tidy;
+use changed_nodes::Changed;
 use journal_text::Record;
 use refutation::Tree;
 use rm_base::{Fault, NoMemory};

@@ -1,9 +1,9 @@
-//! Removes wires by adding others: a sweep that fixes each refuted pin, and the loop that tries pairs of a pin and a wire.
+//! Removes wires by adding others: a sweep that fixes each refuted pin, and the loop that tries pairs of a pin and a wire (Entrena
+//! and Cheng 1995).
 #![tactic(auto)]
 
 mod beginning;
 mod candidates;
-mod changes;
 mod drawing;
 mod exchanging;
 mod fixing;
@@ -13,6 +13,7 @@ mod optimising;
 mod perturbing;
 mod refuting;
 mod removing;
+mod seeking;
 mod sweeping;
 mod tidying;
 mod trying;

@@ -16,7 +16,7 @@ ghost use Rattle.rar_loop.specs.Inner.Improving.{ComesThrough, HasBegun, IsHere,
 
 use crate::beginning::open_workspace;
 use crate::limits::{Limits, raise};
-use crate::walking::{Tour, walk_pairs};
+use crate::walking::{WalkOutcome, walk_pairs};
 use crate::workspace::{Workspace, into_graph};
 use candidate_wires::Outcome;
 use gate_graph::Graph;
@@ -59,16 +59,16 @@ fn improve<S: Shelf>(
     let mut left = limits.settings.tries;
     loop {
         match walk_pairs(alloc, space, *start, limits, &mut left)? {
-            Tour::Done => {
+            WalkOutcome::Done => {
                 let tries = limits.settings.tries - left;
                 let work = limits.work_done(&space.refuter, left);
                 return Ok((Outcome::Settled { tries }, work));
             }
-            Tour::Spent { at, work } => {
+            WalkOutcome::Spent { at, work } => {
                 let tries = limits.settings.tries - left;
                 return Ok((Outcome::TriesSpent { tries, at }, work));
             }
-            Tour::Gained { pair, records } => {
+            WalkOutcome::Gained { pair, records } => {
                 append_records(alloc, shelf, journal, &records)?;
                 count_records(&records, made);
                 records_fit(&records);

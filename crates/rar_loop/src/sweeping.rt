@@ -8,10 +8,10 @@ ghost use Rattle.rar_loop.specs.Inner.Spaces.{HasToolsFor, TouchesOn};
 ghost use Rattle.rar_loop.specs.Inner.Swept.{HasLookedAt, HasPassed, HasSwept};
 ghost use Rattle.rm_base.specs.Numbers.{number_bound};
 
-use crate::changes::Changed;
 use crate::fixing::fix_and_tidy;
 use crate::refuting::refuted_at;
 use crate::workspace::Workspace;
+use changed_nodes::Changed;
 use journal_text::{Record, accepted_steps_keep};
 use rm_base::{NoMemory, NodeId};
 use std::alloc::Global;

@@ -5,10 +5,10 @@ ghost use Rattle.wire_edit.specs.Order.{IsTidy};
 ghost use Rattle.wire_edit.specs.Work.{work};
 ghost use Rattle.wire_edit.specs.Tidying.{TidiesTo};
 ghost use Rattle.journal_text.specs.declared.record.Record.TheVariants as record_of;
-ghost use Rattle.rar_loop.specs.Inner.Changing.{NotesOn};
+ghost use Rattle.changed_nodes.specs.Changing.{NotesOn};
 ghost use Rattle.rar_loop.specs.Inner.Going.{Goes};
 
-use crate::changes::Changed;
+use changed_nodes::Changed;
 use journal_text::Record;
 use refutation::TreeBuilder;
 use rm_base::NoMemory;

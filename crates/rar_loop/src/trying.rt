@@ -10,19 +10,19 @@ ghost use Rattle.candidate_wires.specs.Gains.{net_for, wire_for, with_candidate}
 ghost use Rattle.recursive_learning.specs.Serving.{IsServing};
 ghost use Rattle.rar_loop.specs.Inner.Going.{IsLeft, Tallies};
 ghost use Rattle.rar_loop.specs.Inner.Kept.{AreFor};
-ghost use Rattle.rar_loop.specs.Inner.Changing.{NotesOn};
+ghost use Rattle.changed_nodes.specs.Changing.{NotesOn};
 ghost use Rattle.rm_base.specs.Numbers.{numbers_of};
 ghost use Rattle.rar_loop.specs.Inner.Spaces.{HasToolsFor, IsReady, TouchesOn};
 ghost use Rattle.rar_loop.specs.Trying.{IsLent, IsReadyToAdd};
-ghost use Rattle.rar_loop.specs.Inner.Trying.{MayAdd, MayTry, HasAdded, HasReplaced, IsAttempt, IsBack, not_records};
+ghost use Rattle.rar_loop.specs.Inner.Trying.{MayAdd, MayTry, HasAdded, HasReplaced, IsTryOutcome, IsBack, not_records};
 
-use crate::changes::Changed;
 use crate::fixing::fix_and_tidy;
 use crate::refuting::find_tree;
 use crate::sweeping::sweep;
 use crate::tidying::push_local;
 use crate::workspace::Workspace;
 use candidate_wires::{Candidate, Pair, added_pin, control_of, least_free};
+use changed_nodes::Changed;
 use gate_graph::{Graph, Question};
 use journal_text::{Record, accepted_steps_keep};
 use recursive_learning::refuter::Refuter;
@@ -33,7 +33,7 @@ use wire_edit::{Step, Trial, room_suffices, tidying_ends};
 
 /// What came of a try.
 #[derive(Drop)]
-pub(crate) enum Attempt {
+pub(crate) enum TryOutcome {
     /// There are fewer wires, by these records.
     Gained { records: Vec<Record> },
     /// The graph is as it was.
@@ -247,12 +247,12 @@ pub(crate) fn try_pair(
     wires: u32,
     pair: &Pair,
     depth: u8,
-) -> Result<Attempt, NoMemory>
+) -> Result<TryOutcome, NoMemory>
     requires ready { IsReady space.old }
     requires pair { MayTry (net_of space.old.trial.graph) pair.now }
     requires wires { wires ≡ wire_count (net_of space.old.trial.graph) }
     requires depth { depth ≤ 2 }
-    ensures attempt { IfOk result (IsAttempt space.old.trial pair.now depth space.new.trial) }
+    ensures try_outcome { IfOk result (IsTryOutcome space.old.trial pair.now depth space.new.trial) }
     ensures tools { OnOk result (HasToolsFor (net_of space.new.trial.graph) space.new) }
 {
     space.trial.graph().well_formed();
@@ -266,14 +266,14 @@ pub(crate) fn try_pair(
     if !refuted {
         give_back(&mut space.trial);
         space.refuter.follow(space.trial.graph(), added.as_slice())?;
-        return Ok(Attempt::Failed);
+        return Ok(TryOutcome::Failed);
     }
     if space.trial.graph().wire_count() < wires {
         space.trial.keep();
         space.trial.graph().well_formed();
-        return Ok(Attempt::Gained { records: log });
+        return Ok(TryOutcome::Gained { records: log });
     }
     give_back(&mut space.trial);
     space.follow_back(alloc)?;
-    Ok(Attempt::Failed)
+    Ok(TryOutcome::Failed)
 }

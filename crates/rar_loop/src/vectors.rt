@@ -3,20 +3,23 @@ ghost use Rattle.std.specs.Prelude.{◌≡◌, ◌<◌, ℕ, Bool, IfOk, OnOk, I
 ghost use Rattle.gate_net.specs.Net.{Net};
 ghost use Rattle.gate_net.specs.Values.{Detects};
 ghost use Rattle.gate_graph.specs.Circuit.{net_of};
+ghost use Rattle.fault_sim.specs.Observing.{AreObservabilities};
 ghost use Rattle.fault_sim.specs.Words.{assignment, lane};
 ghost use Rattle.fault_sim.specs.BlockStates.{AreSimulated};
 ghost use Rattle.fault_sim.specs.LaneStates.{Fits, IsSimulated};
 ghost use Rattle.fault_sim.specs.Following.{DiffersAmong};
 ghost use Rattle.rm_base.specs.Numbers.{numbers_of};
-ghost use Rattle.rar_loop.specs.Inner.Kept.{AreAsked, AreFor, HasKept, IsTurned, lanes_with, wanted};
+ghost use Rattle.rar_loop.specs.Inner.Kept.{AreAsked, AreFor, HasKept, IsSought, IsTurned, lanes_with, wanted};
 ghost use Rattle.rar_loop.specs.Inner.Trying.{IsNewPinOpen, MayAdd};
 
-use crate::drawing::{block_count, drawn_words};
+use crate::drawing::{block_count, drawn_words, words_like};
+use crate::seeking::{Seeker, Sought, detect_by, search_by};
 use candidate_vectors::completed_words;
 use candidate_wires::{Candidate, control_of};
-use fault_sim::{Blocks, Lanes};
+use fault_sim::{Blocks, Lanes, Observabilities};
 use gate_graph::{Graph, Question};
 use gate_net::outside_is_equal;
+use podem::Verdict;
 use refutation::FactSet;
 use refutation::detected::detected_faults_stay_open;
 use rm_base::{Fault, NoMemory, NodeId};
@@ -28,6 +31,8 @@ use wire_edit::steps_keep;
 #[derive(Drop)]
 pub(crate) struct Vectors {
     lanes: Lanes,
+    // What the faults of a gate share under the vectors of the lanes.
+    notes: Observabilities,
     // Further drawn vectors, and those that were found by searches.
     found: Blocks,
     // By a number made of a fault: 0, or 1 more than the block of those that detected it last.
@@ -35,8 +40,9 @@ pub(crate) struct Vectors {
     turned: Vec<Option<u64>>,
     // The gates of which a word is kept.
     asked: Vec<NodeId>,
-    // Whether vectors that complete facts are looked for: no search has found any yet.
-    completing: bool,
+    // Whether vectors are looked for that detect single faults: no search has found any yet.
+    seeking: bool,
+    seeker: Option<Seeker>,
 }
 
 // Whether the word has a lane.
@@ -210,11 +216,13 @@ fn lengthen(turned: &mut Vec<Option<u64>>, count: usize) -> Result<(), NoMemory>
 }
 
 // Under which vectors the gate's first pin is detected at the controlling value.
-fn turned_by(lanes: &mut Lanes, graph: &Graph, gate: NodeId) -> u64
+fn turned_by(lanes: &mut Lanes, notes: &mut Observabilities, graph: &Graph, gate: NodeId) -> u64
     requires fits { Fits lanes.old (net_of graph.now) }
     requires simulated { IsSimulated lanes.old (net_of graph.now) }
+    requires right { AreObservabilities notes.old (net_of graph.now) lanes.old.words }
     ensures turned { (i : ℕ) → i < 64 → IsTrue (lane i result) → IsTurned (net_of graph.now) gate.0 (assignment lanes.old.words i) }
     ensures same { lanes.new ≡ lanes.old }
+    ensures right { AreObservabilities notes.new (net_of graph.now) lanes.old.words }
 {
     let Some(control) = control_of(graph, gate) else {
         return 0;
@@ -227,7 +235,7 @@ fn turned_by(lanes: &mut Lanes, graph: &Graph, gate: NodeId) -> u64
         position: 0,
         value: control,
     };
-    lanes.detect(&Question { graph, fault })
+    lanes.detect_sharing(&Question { graph, fault }, notes)
 }
 
 impl Vectors {
@@ -246,14 +254,18 @@ impl Vectors {
         keep_drawn(alloc, graph, &mut blocks)?;
         keep_all(alloc, graph, found, &mut blocks)?;
         let hints = vec![in alloc; 0usize; 4 * graph.wire_count() as usize + 1]?;
-        let turned = none_kept(alloc, graph.node_bound() as usize)?;
+        let bound = graph.node_bound() as usize;
+        let turned = none_kept(alloc, bound)?;
+        let notes = Observabilities::new(alloc, bound + graph.wire_count() as usize)?;
         Ok(Vectors {
             lanes,
+            notes,
             found: blocks,
             hints,
             turned,
             asked: Vec::new(alloc),
-            completing: found.is_empty(),
+            seeking: found.is_empty(),
+            seeker: None,
         })
     }
 
@@ -267,6 +279,8 @@ impl Vectors {
         requires follows { (net : Net) × (AreFor self.old net × DiffersAmong net (net_of graph.now) (numbers_of changed.now)) }
         ensures { OnOk result (AreFor self.new (net_of graph.now)) }
     {
+        self.seeker = None;
+        self.notes.forget();
         forget(&mut self.turned, &mut self.asked);
         lengthen(&mut self.turned, graph.node_bound() as usize)?;
         self.lanes.follow(alloc, graph, changed)?;
@@ -284,7 +298,7 @@ impl Vectors {
         if detects_by(&mut self.found, question, hint) {
             return true;
         }
-        if any(self.lanes.detect(question)) {
+        if any(self.lanes.detect_sharing(question, &mut self.notes)) {
             keep_hint(&mut self.hints, place, 0);
             return true;
         }
@@ -297,9 +311,9 @@ impl Vectors {
         }
     }
 
-    /// Whether no search has found vectors yet, so that vectors that complete facts are looked for.
-    pub(crate) fn is_completing(&self) -> bool {
-        self.completing
+    /// Whether no search has found vectors yet, so that some are looked for.
+    pub(crate) fn is_seeking(&self) -> bool {
+        self.seeking
     }
 
     /// Whether one of 64 vectors that complete the facts detects the fault. They are kept then.
@@ -314,13 +328,37 @@ impl Vectors {
         ensures vectors { AreFor self.new (net_of question.now.graph.now) }
     {
         let words = completed_words(alloc, question.graph, facts)?;
-        let mut lanes = Lanes::new(alloc, question.graph)?;
-        lanes.simulate64(question.graph, words.as_slice());
-        let Some(_lane) = lanes.first_detecting(question) else {
+        let found = detect_by(alloc, question, words.as_slice(), &mut self.seeker)?;
+        if !any(found) {
             return Ok(false);
-        };
+        }
         keep_block(alloc, question.graph, words.as_slice(), &mut self.found)?;
         Ok(true)
+    }
+
+    /// What a search of some edges finds of the fault. A vector is kept, with others that are like it.
+    pub(crate) fn seek(
+        &mut self,
+        alloc: Global,
+        question: &Question<'_>,
+    ) -> Result<Sought, NoMemory>
+        requires vectors { AreFor self.old (net_of question.now.graph.now) }
+        ensures sought { IfOk result (IsSought (net_of question.now.graph.now) question.now.fault) }
+        ensures vectors { AreFor self.new (net_of question.now.graph.now) }
+    {
+        let found = search_by(alloc, question, &mut self.seeker)?;
+        let Some(verdict) = found else {
+            return Ok(Sought::Open);
+        };
+        match verdict {
+            Verdict::Detected(vector) => {
+                let words = words_like(alloc, &vector, self.found.count())?;
+                keep_block(alloc, question.graph, words.as_slice(), &mut self.found)?;
+                Ok(Sought::Detected)
+            }
+            Verdict::Refuted(tree) => Ok(Sought::Refuted(tree)),
+            Verdict::Spent(_tree) => Ok(Sought::Open),
+        }
     }
 
     // Under which of them the gate turns, found once for each gate.
@@ -332,7 +370,7 @@ impl Vectors {
         if let Some(word) = kept_of(self.turned.as_slice(), gate) {
             return word;
         }
-        let word = turned_by(&mut self.lanes, graph, gate);
+        let word = turned_by(&mut self.lanes, &mut self.notes, graph, gate);
         keep(&mut self.turned, &mut self.asked, gate, word);
         word
     }

@@ -4,13 +4,13 @@ ghost use Rattle.gate_net.specs.Net.{wire_count};
 ghost use Rattle.gate_net.specs.Values.{HasPin};
 ghost use Rattle.gate_graph.specs.Circuit.{net_of};
 ghost use Rattle.rar_loop.specs.Inner.Spaces.{HasToolsFor, IsReady};
-ghost use Rattle.rar_loop.specs.Inner.Trying.{IsAttempt, MayTry};
+ghost use Rattle.rar_loop.specs.Inner.Trying.{IsTryOutcome, MayTry};
 ghost use Rattle.rar_loop.specs.Ended.{IsUsedUp};
-ghost use Rattle.rar_loop.specs.Inner.Walking.{AreUsedUp, IsTargetTour, IsTour};
+ghost use Rattle.rar_loop.specs.Inner.Walking.{AreUsedUp, IsTargetOutcome, IsWalkOutcome};
 
 use crate::candidates::candidates_of;
 use crate::limits::Limits;
-use crate::trying::{Attempt, try_pair};
+use crate::trying::{TryOutcome, try_pair};
 use crate::workspace::Workspace;
 use candidate_wires::{Finder, Pair, turn};
 use gate_graph::Question;
@@ -19,9 +19,9 @@ use refutation::laws::closed_has_all;
 use rm_base::{Fault, NoMemory};
 use std::alloc::Global;
 
-/// How a tour of pairs ended.
+/// How a walk through pairs ended.
 #[derive(Drop)]
-pub(crate) enum Tour {
+pub(crate) enum WalkOutcome {
     /// No pair is left.
     Done,
     /// The tries are used up, or the work, which is so much, has reached its limit, and this pair would come next.
@@ -37,18 +37,18 @@ fn try_unless_detected(
     wires: u32,
     pair: &Pair,
     depth: u8,
-) -> Result<Attempt, NoMemory>
+) -> Result<TryOutcome, NoMemory>
     requires ready { IsReady space.old }
     requires pair { MayTry (net_of space.old.trial.graph) pair.now }
     requires wires { wires ≡ wire_count (net_of space.old.trial.graph) }
     requires depth { depth ≤ 2 }
-    ensures attempt { IfOk result (IsAttempt space.old.trial pair.now depth space.new.trial) }
+    ensures try_outcome { IfOk result (IsTryOutcome space.old.trial pair.now depth space.new.trial) }
     ensures tools { OnOk result (HasToolsFor (net_of space.new.trial.graph) space.new) }
 {
     closed_has_all();
     let graph = space.trial.graph();
     if space.vectors.detect_wire(graph, &pair.candidate) {
-        return Ok(Attempt::Failed);
+        return Ok(TryOutcome::Failed);
     }
     try_pair(alloc, space, wires, pair, depth)
 }
@@ -77,13 +77,13 @@ fn walk_target(
     target: Fault,
     limits: &Limits,
     left: &mut u32,
-) -> Result<Tour, NoMemory>
+) -> Result<WalkOutcome, NoMemory>
     requires ready { IsReady space.old }
     requires numbers { length (net_of space.old.trial.graph).nodes ≤ finder.old }
     requires pin { HasPin (net_of space.old.trial.graph) target }
     requires wires { wires ≡ wire_count (net_of space.old.trial.graph) }
     requires depth { limits.now.settings.depth ≤ 2 }
-    ensures tour { IfOk result (IsTargetTour space.old.trial target limits.now.settings.depth left.old left.new space.new.trial) }
+    ensures walk_outcome { IfOk result (IsTargetOutcome space.old.trial target limits.now.settings.depth left.old left.new space.new.trial) }
     ensures ends { IfOk result (AreUsedUp limits.now.settings left.new) }
     ensures numbers { finder.new ≡ finder.old }
     ensures tools { OnOk result (HasToolsFor (net_of space.new.trial.graph) space.new) }
@@ -99,15 +99,15 @@ fn walk_target(
             candidate: found[place],
         };
         if let Some(work) = work_at_end(space, limits, *left) {
-            return Ok(Tour::Spent { at: pair, work });
+            return Ok(WalkOutcome::Spent { at: pair, work });
         }
         *left -= 1;
         match try_unless_detected(alloc, space, wires, &pair, limits.settings.depth)? {
-            Attempt::Failed => {}
-            Attempt::Gained { records } => return Ok(Tour::Gained { pair, records }),
+            TryOutcome::Failed => {}
+            TryOutcome::Gained { records } => return Ok(WalkOutcome::Gained { pair, records }),
         }
     }
-    Ok(Tour::Done)
+    Ok(WalkOutcome::Done)
 }
 
 // Tries the pairs of all targets in turn, until one gains.
@@ -119,12 +119,12 @@ fn walk_targets(
     start: Option<Fault>,
     limits: &Limits,
     left: &mut u32,
-) -> Result<Tour, NoMemory>
+) -> Result<WalkOutcome, NoMemory>
     requires ready { IsReady space.old }
     requires numbers { length (net_of space.old.trial.graph).nodes ≤ finder.old }
     requires wires { wires ≡ wire_count (net_of space.old.trial.graph) }
     requires depth { limits.now.settings.depth ≤ 2 }
-    ensures tour { IfOk result (IsTour space.old.trial start limits.now.settings.depth left.old left.new space.new.trial) }
+    ensures walk_outcome { IfOk result (IsWalkOutcome space.old.trial start limits.now.settings.depth left.old left.new space.new.trial) }
     ensures ends { IfOk result (AreUsedUp limits.now.settings left.new) }
     ensures ready { OnOk result (IsReady space.new) }
 {
@@ -132,12 +132,15 @@ fn walk_targets(
     for place in 0..faults.len() {
         let target = faults[place];
         match walk_target(alloc, space, finder, wires, target, limits, left)? {
-            Tour::Done => {}
-            Tour::Spent { at, work } => return Ok(Tour::Spent { at, work }),
-            Tour::Gained { pair, records } => return Ok(Tour::Gained { pair, records }),
+            WalkOutcome::Done => {}
+            WalkOutcome::Spent { at, work } => return Ok(WalkOutcome::Spent { at, work }),
+            WalkOutcome::Gained { pair, records } => return Ok(WalkOutcome::Gained {
+                pair,
+                records,
+            }),
         }
     }
-    Ok(Tour::Done)
+    Ok(WalkOutcome::Done)
 }
 
 /// Tries the pairs of a swept net in a turn from a target on, until one gains.
@@ -147,10 +150,10 @@ pub(crate) fn walk_pairs(
     start: Option<Fault>,
     limits: &Limits,
     left: &mut u32,
-) -> Result<Tour, NoMemory>
+) -> Result<WalkOutcome, NoMemory>
     requires ready { IsReady space.old }
     requires depth { limits.now.settings.depth ≤ 2 }
-    ensures tour { IfOk result (IsTour space.old.trial start limits.now.settings.depth left.old left.new space.new.trial) }
+    ensures walk_outcome { IfOk result (IsWalkOutcome space.old.trial start limits.now.settings.depth left.old left.new space.new.trial) }
     ensures ends { IfOk result (AreUsedUp limits.now.settings left.new) }
     ensures ready { OnOk result (IsReady space.new) }
 {

@@ -7,8 +7,8 @@ ghost use Rattle.rar_loop.specs.Inner.Kept.{AreFor};
 ghost use Rattle.rar_loop.specs.Sizes.{IsSame};
 ghost use Rattle.rar_loop.specs.Inner.Spaces.{CanFollow, CanReturn, HasToolsFor, TouchesNoted};
 
-use crate::changes::Changed;
 use crate::vectors::Vectors;
+use changed_nodes::Changed;
 use gate_graph::Graph;
 use recursive_learning::refuter::Refuter;
 use rm_base::{NoMemory, NodeId};

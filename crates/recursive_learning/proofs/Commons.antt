@@ -6,9 +6,9 @@ use Rattle.gate_net.specs.Net.{Net}
 use Rattle.refutation.specs.FactLists.{IsAmong}
 use Rattle.recursive_learning.specs.Inner.Common.{Meets}
 use Rattle.recursive_learning.specs.Least.{IsLeastAt}
-use Rattle.recursive_learning.specs.Inner.Lessons.{AreCommon, AreFound, IsNothingNew}
+use Rattle.recursive_learning.specs.Inner.JustifiedValues.{AreCommon, AreFound, IsNothingNew}
 use Rattle.recursive_learning.specs.Inner.Working.{AreSettled}
-use Rattle.recursive_learning.specs.declared.lessons.GoodValue.{GoodValue}
+use Rattle.recursive_learning.specs.declared.justified_values.GoodValue.{GoodValue}
 use Rattle.refutation.specs.Closing.{IsClashFree, IsWithin}
 use Rattle.refutation.specs.FactSets.{held_by}
 use Rattle.refutation.specs.Facts.{Held, known_good, one_of, with_fact}

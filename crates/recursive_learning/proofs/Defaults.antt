@@ -1,6 +1,6 @@
 -- What is read past the end of a list.
 use Rattle.std.proofs.Common.{false}
-use Rattle.recursive_learning.specs.declared.lessons.GoodValue.{GoodValue}
+use Rattle.recursive_learning.specs.declared.justified_values.GoodValue.{GoodValue}
 use Rattle.refutation.specs.declared.reasoning.Fact.{Fact}
 use Rattle.refutation.specs.declared.reasoning.Fact.TheVariants.{Good}
 use Rattle.rm_base.specs.declared.numbers.NodeId.{NodeId}

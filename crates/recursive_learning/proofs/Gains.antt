@@ -3,9 +3,9 @@ use Rattle.std.proofs.Common.{List, None, Some, arith, false, refl, subst, suc, 
 use Rattle.std.specs.Prelude.{slice_get}
 use Rattle.gate_net.specs.Net.{Net}
 use Rattle.implications.specs.State.{EngineState}
-use Rattle.recursive_learning.specs.Inner.Lessons.{AreNew, HoldsAll, IsGained}
+use Rattle.recursive_learning.specs.Inner.JustifiedValues.{AreNew, HoldsAll, IsGained}
 use Rattle.recursive_learning.specs.Inner.Working.{AreSettled, IsLearned, Keeps}
-use Rattle.recursive_learning.specs.declared.lessons.GoodValue.{GoodValue}
+use Rattle.recursive_learning.specs.declared.justified_values.GoodValue.{GoodValue}
 use Rattle.refutation.specs.Closing.{IsClashFree, IsClosedUnderLines, IsWithin}
 use Rattle.refutation.specs.FactSets.{held_by, missing}
 use Rattle.refutation.specs.Facts.{Held, known_good, with_fact}

@@ -4,7 +4,7 @@ use Rattle.std.proofs.lemmas.List.{take_more}
 use Rattle.std.specs.Prelude.{slice_get}
 use Rattle.refutation.specs.FactLists.{IsAmong}
 use Rattle.recursive_learning.specs.Inner.Common.{AreGoodsOf, AreHeldAmong, IsAmongGoods}
-use Rattle.recursive_learning.specs.declared.lessons.GoodValue.{GoodValue}
+use Rattle.recursive_learning.specs.declared.justified_values.GoodValue.{GoodValue}
 use Rattle.refutation.specs.Facts.{Held, known_good}
 use Rattle.refutation.specs.declared.reasoning.Fact.{Fact}
 use Rattle.refutation.specs.declared.reasoning.Fact.TheVariants.{Good}

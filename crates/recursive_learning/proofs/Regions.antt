@@ -9,11 +9,11 @@ use Rattle.implications.specs.Settled.{AgreeAt, place_of}
 use Rattle.recursive_learning.proofs.Indexes.{watched_longer}
 use Rattle.recursive_learning.specs.Inner.Gates.{AreJustifications}
 use Rattle.recursive_learning.specs.Least.{IsLeastAt}
-use Rattle.recursive_learning.specs.Inner.Lessons.{AreCommon}
+use Rattle.recursive_learning.specs.Inner.JustifiedValues.{AreCommon}
 use Rattle.recursive_learning.specs.Resting.{IsLonger, IsWatched}
 use Rattle.recursive_learning.specs.Inner.Watching.{AgreeAround, Covers, HasRegion, IsCovered, StaysTaught}
 use Rattle.recursive_learning.specs.Inner.Working.{AreSettled}
-use Rattle.recursive_learning.specs.declared.lessons.GoodValue.{GoodValue}
+use Rattle.recursive_learning.specs.declared.justified_values.GoodValue.{GoodValue}
 use Rattle.recursive_learning.specs.declared.resting.Rest.{Rest}
 use Rattle.refutation.specs.Closing.{IsClashFree, IsClosedUnderLines, IsWithin}
 use Rattle.refutation.specs.Facts.{AreOpposed, Held, known_good, with_fact}

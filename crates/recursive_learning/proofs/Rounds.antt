@@ -9,10 +9,10 @@ use Rattle.recursive_learning.proofs.Gains.{keeps_join, keeps_none}
 use Rattle.recursive_learning.proofs.Learns.{clashes_are_learned, values_are_learned}
 use Rattle.recursive_learning.specs.Inner.Gates.{AreJustifications, HasTaught, NoneGives}
 use Rattle.recursive_learning.specs.Least.{AreForced}
-use Rattle.recursive_learning.specs.Inner.Lessons.{AreFound, HoldsAll, IsGained, IsLesson, IsNothingNew, IsRound}
+use Rattle.recursive_learning.specs.Inner.JustifiedValues.{AreFound, HoldsAll, IsGained, IsJustified, IsNothingNew, IsRound}
 use Rattle.recursive_learning.specs.Inner.Working.{AreSettled, IsLearned, Keeps}
-use Rattle.recursive_learning.specs.declared.lessons.GoodValue.{GoodValue}
-use Rattle.recursive_learning.specs.declared.lessons.Round.TheVariants.{Gained}
+use Rattle.recursive_learning.specs.declared.justified_values.GoodValue.{GoodValue}
+use Rattle.recursive_learning.specs.declared.justified_values.Round.TheVariants.{Gained}
 use Rattle.refutation.specs.Closing.{IsClashFree, IsWithin}
 use Rattle.refutation.specs.FactSets.{held_by}
 use Rattle.refutation.specs.Facts.{Held, known_good}
@@ -85,18 +85,18 @@ junction_below net y c junction = kind_live net y (junction.0, junction.1.0)
 pub few_of : (net : Net) (held : Held) (y : ℕ) (ds : List ℕ) → AreJustifications net held y ds → HasFew net held y
 few_of net held y ds j = (ds, (j.few, j.all))
 
-pub visit_clash : (net : Net) (fault : Fault) (depth : ℕ) (held : Held) (y : ℕ) (c : Bool) (ds : List ℕ) (found : Bool) (goods : List GoodValue) → IsLesson net fault depth held y c ds found goods → found ≡ false → LeadsToClash net fault (suc depth) held
+pub visit_clash : (net : Net) (fault : Fault) (depth : ℕ) (held : Held) (y : ℕ) (c : Bool) (ds : List ℕ) (found : Bool) (goods : List GoodValue) → IsJustified net fault depth held y c ds found goods → found ≡ false → LeadsToClash net fault (suc depth) held
 visit_clash net fault depth held y c ds found goods l none = clashes_are_learned net fault depth held y c l.unjustified (few_of net held y ds l.drivers) (l.clash none)
 
-all_held : (net : Net) (fault : Fault) (depth : ℕ) (held : Held) (y : ℕ) (c : Bool) (ds : List ℕ) (found : Bool) (goods : List GoodValue) → IsLesson net fault depth held y c ds found goods → found ≡ true → (s : Held) → IsWithin held s → IsClashFree s → IsClosedAt net fault (suc depth) s → HoldsAll s goods
+all_held : (net : Net) (fault : Fault) (depth : ℕ) (held : Held) (y : ℕ) (c : Bool) (ds : List ℕ) (found : Bool) (goods : List GoodValue) → IsJustified net fault depth held y c ds found goods → found ≡ true → (s : Held) → IsWithin held s → IsClashFree s → IsClosedAt net fault (suc depth) s → HoldsAll s goods
 all_held net fault depth held y c ds found goods l some s within free closed k g there =
     values_are_learned net fault depth held y c l.unjustified (few_of net held y ds l.drivers) g.node.0 g.value (l.lead some k g there) s within free closed g.node.0 (Good g.value) (with_there held g.node.0 (Good g.value))
 
-pub visit_gain : (net : Net) (fault : Fault) (depth : ℕ) (y : ℕ) (c : Bool) (ds : List ℕ) (found : Bool) (goods : List GoodValue) (gates : ℕ → Type 0) (start now : List NodeFacts) → IsLesson net fault depth (held_by start) y c ds found goods → found ≡ true → IsGained net fault goods start false now → IsRound net fault depth gates start Gained now
+pub visit_gain : (net : Net) (fault : Fault) (depth : ℕ) (y : ℕ) (c : Bool) (ds : List ℕ) (found : Bool) (goods : List GoodValue) (gates : ℕ → Type 0) (start now : List NodeFacts) → IsJustified net fault depth (held_by start) y c ds found goods → found ≡ true → IsGained net fault goods start false now → IsRound net fault depth gates start Gained now
 visit_gain net fault depth y c ds found goods gates start now l some gained =
     (gained.0, (λ s within free closed. gained.1.0 s within free (lines_of net fault (suc depth) s closed) (all_held net fault depth (held_by start) y c ds found goods l some s within free closed), gained.1.1))
 
-pub visit_gain_clash : (net : Net) (fault : Fault) (depth : ℕ) (y : ℕ) (c : Bool) (ds : List ℕ) (found : Bool) (goods : List GoodValue) (start now : List NodeFacts) → IsLesson net fault depth (held_by start) y c ds found goods → found ≡ true → IsGained net fault goods start true now → LeadsToClash net fault (suc depth) (held_by start)
+pub visit_gain_clash : (net : Net) (fault : Fault) (depth : ℕ) (y : ℕ) (c : Bool) (ds : List ℕ) (found : Bool) (goods : List GoodValue) (start now : List NodeFacts) → IsJustified net fault depth (held_by start) y c ds found goods → found ≡ true → IsGained net fault goods start true now → LeadsToClash net fault (suc depth) (held_by start)
 visit_gain_clash net fault depth y c ds found goods start now l some clash s within free closed =
     clash s within free (lines_of net fault (suc depth) s closed) (all_held net fault depth (held_by start) y c ds found goods l some s within free closed)
 
@@ -119,8 +119,8 @@ taught_nothing net fault depth held y value ds known j nothing c unjustified few
       all_held = λ x b given. nothing.all x b (λ k d at some. given d (j.each k d at) some);
     })
 
-pub lesson_of : (net : Net) (fault : Fault) (depth : ℕ) (held : Held) (y : ℕ) (c : Bool) (ds : List ℕ) (found : Bool) (goods : List GoodValue) → IsJunction net y c → known_good held y ≡ Some c → NoneGives net held y c → AreJustifications net held y ds → ds ≢ [] → AreFound net fault depth held c ds found goods → (found ≡ true → goods ≢ []) → IsLesson net fault depth held y c ds found goods
-lesson_of net fault depth held y c ds found goods junction known none j some is more = record {
+pub justified_of : (net : Net) (fault : Fault) (depth : ℕ) (held : Held) (y : ℕ) (c : Bool) (ds : List ℕ) (found : Bool) (goods : List GoodValue) → IsJunction net y c → known_good held y ≡ Some c → NoneGives net held y c → AreJustifications net held y ds → ds ≢ [] → AreFound net fault depth held c ds found goods → (found ≡ true → goods ≢ []) → IsJustified net fault depth held y c ds found goods
+justified_of net fault depth held y c ds found goods junction known none j some is more = record {
   unjustified = record { junction = junction; known = known; none_gives = none; one_may = first ds some j };
   drivers = j;
   clash = λ e d just. let at = j.all d just in is.0 e at.0 d at.1;

@@ -9,11 +9,11 @@ use Rattle.gate_net.specs.declared.Kind.{Kind}
 use Rattle.gate_net.specs.declared.Kind.TheVariants.{And, Not, One, Or, Source, Xor, Zero}
 use Rattle.recursive_learning.proofs.Commons.{held_known}
 use Rattle.recursive_learning.proofs.Tells.{writes_join}
-use Rattle.recursive_learning.specs.Inner.Lessons.{IsLesson}
+use Rattle.recursive_learning.specs.Inner.JustifiedValues.{IsJustified}
 use Rattle.recursive_learning.specs.Inner.Telling.{Ends, IsTold, Leads, Writes, branch, none}
 use Rattle.recursive_learning.specs.Inner.Working.{AreSettled}
 use Rattle.recursive_learning.specs.Inner.Writing.{CasesClash, HasCases, OppositeClashes}
-use Rattle.recursive_learning.specs.declared.lessons.GoodValue.{GoodValue}
+use Rattle.recursive_learning.specs.declared.justified_values.GoodValue.{GoodValue}
 use Rattle.refutation.specs.Branches.{MaySplit}
 use Rattle.refutation.specs.Closing.{IsClashFree, IsWithin}
 use Rattle.refutation.specs.Facts.{Held, known_good, one_of, with_fact}
@@ -95,7 +95,7 @@ cases_grow net held more c ds fault within free cases = record {
   reads = cases.reads;
 }
 
-pub cases_of : (net : Net) (fault : Fault) (depth : ℕ) (held : Held) (y : ℕ) (c : Bool) (ds : List ℕ) (found : Bool) (goods : List GoodValue) → IsLesson net fault depth held y c ds found goods → HasCases net held c ds
+pub cases_of : (net : Net) (fault : Fault) (depth : ℕ) (held : Held) (y : ℕ) (c : Bool) (ds : List ℕ) (found : Bool) (goods : List GoodValue) → IsJustified net fault depth held y c ds found goods → HasCases net held c ds
 cases_of net fault depth held y c ds found goods l = record {
   gate = y;
   junction = l.unjustified.junction;
@@ -111,16 +111,16 @@ cases_of net fault depth held y c ds found goods l = record {
       | inr other ↦ inl (is ∙ ap Some other)
     ]
 
--- a lesson of clashes: each driver taken for the value clashes, also with more facts
-pub lesson_cases : (net : Net) (fault : Fault) (depth : ℕ) (held : Held) (y : ℕ) (c : Bool) (ds : List ℕ) (found : Bool) (goods : List GoodValue) → IsLesson net fault depth held y c ds found goods → found ≡ false → CasesClash net fault depth held c ds
-lesson_cases net fault depth held y c ds found goods l none = record {
+-- common values of clashes: each driver taken for the value clashes, also with more facts
+pub justified_cases : (net : Net) (fault : Fault) (depth : ℕ) (held : Held) (y : ℕ) (c : Bool) (ds : List ℕ) (found : Bool) (goods : List GoodValue) → IsJustified net fault depth held y c ds found goods → found ≡ false → CasesClash net fault depth held c ds
+justified_cases net fault depth held y c ds found goods l none = record {
   cases = cases_of net fault depth held y c ds found goods l;
   clash = λ k d there more within is s contains. l.clash none d (l.drivers.each k d there) s (λ x fact e. contains x fact (with_within held more d (Good c) within is x fact e));
 }
 
--- a lesson of values: each driver and the opposite clash, also with more facts
-pub lesson_opposite : (net : Net) (fault : Fault) (depth : ℕ) (held now : Held) (y : ℕ) (c : Bool) (ds : List ℕ) (found : Bool) (goods : List GoodValue) (j : ℕ) (g : GoodValue) → IsLesson net fault depth held y c ds found goods → found ≡ true → slice_get goods j ≡ Some g → IsWithin held now → IsClashFree now → OppositeClashes net fault depth now c ds g.node.0 g.value
-lesson_opposite net fault depth held now y c ds found goods j g l some at inside free = record {
+-- common values: each driver and the opposite clash, also with more facts
+pub justified_opposite : (net : Net) (fault : Fault) (depth : ℕ) (held now : Held) (y : ℕ) (c : Bool) (ds : List ℕ) (found : Bool) (goods : List GoodValue) (j : ℕ) (g : GoodValue) → IsJustified net fault depth held y c ds found goods → found ≡ true → slice_get goods j ≡ Some g → IsWithin held now → IsClashFree now → OppositeClashes net fault depth now c ds g.node.0 g.value
+justified_opposite net fault depth held now y c ds found goods j g l some at inside free = record {
   cases = cases_grow net held now c ds fault inside free (cases_of net fault depth held y c ds found goods l);
   clash = λ k d there more within is isn't s contains free' closed.
       free' g.node.0 (both_good s g.node.0 g.value

@@ -3,7 +3,7 @@ use Rattle.std.proofs.Common.{Bool, List, Some, arith, false, length, length-set
 use Rattle.std.specs.Prelude.{IsTrue, slice_get, slice_set}
 use Rattle.gate_graph.specs.Search.{IsSeen}
 use Rattle.gate_net.specs.Net.{Net}
-use Rattle.refutation.specs.Agendas.{seen_count}
+use Rattle.refutation.specs.Worklists.{seen_count}
 use Rattle.implications.specs.State.{EngineState}
 use Rattle.recursive_learning.proofs.Gains.{keeps_join}
 use Rattle.recursive_learning.proofs.Holdings.{IsBefore, before_next, taught_each}
@@ -11,11 +11,11 @@ use Rattle.recursive_learning.proofs.Refutes.{closed_at_smaller}
 use Rattle.recursive_learning.proofs.Rounds.{Learning, forced_clash, forced_join, learning_more, learning_quiet}
 use Rattle.recursive_learning.specs.Inner.Gates.{HasTaught}
 use Rattle.recursive_learning.specs.Least.{AreForced}
-use Rattle.recursive_learning.specs.Inner.Lessons.{IsEach, IsOne, IsRound}
+use Rattle.recursive_learning.specs.Inner.JustifiedValues.{IsEach, IsOne, IsRound}
 use Rattle.recursive_learning.specs.Inner.Watching.{looks_left}
 use Rattle.recursive_learning.specs.Inner.Working.{AreSettled, IsLearned, Keeps}
-use Rattle.recursive_learning.specs.declared.lessons.Round.{Round}
-use Rattle.recursive_learning.specs.declared.lessons.Round.TheVariants.{Clash, Gained, Quiet}
+use Rattle.recursive_learning.specs.declared.justified_values.Round.{Round}
+use Rattle.recursive_learning.specs.declared.justified_values.Round.TheVariants.{Clash, Gained, Quiet}
 use Rattle.refutation.specs.FactSets.{held_by, missing}
 use Rattle.refutation.specs.Facts.{Held}
 use Rattle.refutation.specs.Learning.{IsClosedAt, LeadsToClash}

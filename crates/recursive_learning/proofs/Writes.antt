@@ -77,7 +77,7 @@ pub pass_all : (net : Net) (fault : Fault) (depth : ℕ) (gates : List NodeId) (
 pass_all net fault depth gates n start now all (inl quiet) = inl (quiet.0, λ y there. quiet.1 y (before_all gates n all y there))
 pass_all net fault depth gates n start now all (inr less) = inr less
 
--- where the facts lead to a clash, some gate whose good value is held teaches something
+-- where the facts lead to a clash, some gate whose good value is held implies something
 pub pass_fewer : (net : Net) (fault : Fault) (depth : ℕ) (gates : ℕ → Type 0) (start now : List NodeFacts) → ((x : ℕ) (value : Bool) → IsTrue (held_by start x (Good value)) → gates x) → IsPassed net fault depth gates start now → AreSettled net fault (held_by start) → LeadsToClash net fault (suc depth) (held_by start) → missing now < missing start
 pass_fewer net fault depth gates start now all (inl quiet) settled clash = absurd (clash (held_by start) (λ x fact e. e) settled.free (settled.closed, taught_each net fault depth (held_by start) gates all quiet.1))
 pass_fewer net fault depth gates start now all (inr less) settled clash = less

@@ -4,7 +4,7 @@ pub mod Bodies
 pub mod Common
 pub mod Gates
 pub mod Holding
-pub mod Lessons
+pub mod JustifiedValues
 pub mod Resting
 pub mod Serving
 pub mod Telling

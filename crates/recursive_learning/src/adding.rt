@@ -5,9 +5,9 @@ ghost use Rattle.gate_graph.specs.Circuit.{net_of};
 ghost use Rattle.refutation.specs.Facts.{known_good, with_fact};
 ghost use Rattle.refutation.specs.FactSets.{held_by, missing};
 ghost use Rattle.recursive_learning.specs.Inner.Working.{AreSettled, IsLearned, Keeps};
-ghost use Rattle.recursive_learning.specs.Inner.Lessons.{IsGained, AreNew};
+ghost use Rattle.recursive_learning.specs.Inner.JustifiedValues.{IsGained, AreNew};
 
-use crate::lessons::GoodValue;
+use crate::justified_values::GoodValue;
 use gate_graph::Question;
 use implications::Engine;
 use refutation::pins::{Aspect, known_of};

@@ -10,7 +10,7 @@ ghost use Rattle.recursive_learning.specs.Inner.Gates.{AreJustifications, IsWant
 use gate_graph::Graph;
 use refutation::FactSet;
 use refutation::following::gate_pins;
-use refutation::glances::look_at_facts;
+use refutation::pin_scans::look_at_facts;
 use refutation::pins::{Aspect, controlling, known_of};
 use rm_base::{NoMemory, NodeId};
 use std::alloc::Global;

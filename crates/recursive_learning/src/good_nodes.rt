@@ -5,8 +5,8 @@ ghost use Rattle.refutation.specs.FactSets.{held_by};
 ghost use Rattle.recursive_learning.specs.Inner.Holding.{ListsNodes, NamesAdded, NamesGood, NamesKnown, StillNames};
 
 use gate_graph::Graph;
-use refutation::agenda::Agenda;
 use refutation::pins::{Aspect, known_of};
+use refutation::worklist::Worklist;
 use refutation::{Fact, FactSet};
 use rm_base::{NoMemory, NodeId};
 
@@ -47,7 +47,7 @@ pub fn push_known(graph: &Graph, facts: &FactSet, nodes: &mut Vec<NodeId>) -> Re
 }
 
 /// Lists the nodes.
-pub fn list_nodes(nodes: &[NodeId], listed: &mut Agenda)
+pub fn list_nodes(nodes: &[NodeId], listed: &mut Worklist)
     ensures listed { ListsNodes nodes.now listed.new }
     ensures size { length listed.new ≡ length listed.old }
 {

@@ -6,15 +6,15 @@ ghost use Rattle.refutation.specs.Facts.{known_good, with_fact};
 ghost use Rattle.refutation.specs.FactSets.{held_by};
 ghost use Rattle.implications.specs.Bases.{IsListed};
 ghost use Rattle.recursive_learning.specs.Inner.Holding.{HasGoods};
-ghost use Rattle.recursive_learning.specs.Inner.Lessons.{AreFound, AreOpen, HasLooked, IsEach, IsOne, IsRound, MeetsOneMore, Teaches};
+ghost use Rattle.recursive_learning.specs.Inner.JustifiedValues.{AreFound, AreOpen, HasLooked, IsEach, IsOne, IsRound, MeetsOneMore, Teaches};
 ghost use Rattle.recursive_learning.specs.Watching.{HasRoom, LeavesList};
 ghost use Rattle.recursive_learning.specs.Inner.Watching.{HasNoneListed, IsCovered, IsKnown, IsWatching, Lengthens, NotesRegion, StaysKnown, StaysTaught, looks_left};
 ghost use Rattle.recursive_learning.specs.Inner.Working.{AreSettled, IsLearned, Keeps};
-ghost use Rattle.recursive_learning.specs.declared.lessons.Round.TheVariants.{Clash, Gained, Quiet};
+ghost use Rattle.recursive_learning.specs.declared.justified_values.Round.TheVariants.{Clash, Gained, Quiet};
 
 use crate::adding::{add, gain};
 use crate::gates::{open_drivers, wanted_value};
-use crate::lessons::{Choice, Common, GoodValue, Lesson, Round, meet_lesson};
+use crate::justified_values::{Choice, Common, GoodValue, JustifiedValues, Round, meet_justified};
 use crate::turning::{is_clash, together};
 use crate::watch::Watch;
 use gate_graph::Question;
@@ -116,7 +116,7 @@ fn look_at(
     }
 }
 
-// Closes at a depth of 2 at least: looks at the gates whose good values are held, until none teaches anything.
+// Closes at a depth of 2 at least: looks at the gates whose good values are held, until none implies anything.
 #[cycle(learning)]
 fn learn_deeper(
     engine: &mut Engine,
@@ -276,31 +276,31 @@ fn visit(
     ensures quiet { IfOk result (λ round. round ≡ Quiet → watch.new.listed ≡ watch.old.listed) }
     ensures stays { IfOk result (λ round. round ≡ Quiet → depth ≡ 0 → watch.old.all ≡ false → StaysTaught (net_of question.now.graph.now) question.now.fault (held_by facts.new) watch.new.rests.entries gate.0) }
 {
-    let Some(lesson) = lesson_at(engine, question, facts, watch, depth, gate)? else {
+    let Some(justified) = justified_at(engine, question, facts, watch, depth, gate)? else {
         return Ok(Round::Quiet);
     };
-    if !lesson.found {
+    if !justified.found {
         return Ok(Round::Clash);
     }
     let mark = engine.mark();
-    if gain(engine, question, facts, &lesson.goods)? {
+    if gain(engine, question, facts, &justified.goods)? {
         return Ok(Round::Clash);
     }
     watch.list_changed(question.graph, engine.added_facts(mark));
     Ok(Round::Gained)
 }
 
-/// What one gate teaches, with justifications closed at the depth. The facts are left as they were. Where a gate has
+/// What one gate implies, with justifications closed at the depth. The facts are left as they were. Where a gate has
 /// nothing to teach at depth 0, the watch learns on which places that rests.
 #[cycle(learning)]
-pub fn lesson_at(
+pub fn justified_at(
     engine: &mut Engine,
     question: &Question<'_>,
     facts: &mut FactSet,
     watch: &mut Watch,
     depth: u8,
     gate: NodeId,
-) -> Result<Option<Lesson>, NoMemory>
+) -> Result<Option<JustifiedValues>, NoMemory>
     requires numbers { length (net_of question.now.graph.now).nodes ≤ engine.old.numbers }
     requires size { length (net_of question.now.graph.now).nodes ≤ length facts.old }
     requires settled { AreSettled (net_of question.now.graph.now) question.now.fault (held_by facts.old) }
@@ -308,11 +308,11 @@ pub fn lesson_at(
     requires goods { 0 < depth → HasGoods watch.old engine.old facts.old }
     requires watching { 0 < depth → IsWatching (net_of question.now.graph.now) question.now.fault (held_by facts.old) watch.old }
     requires none { 0 < depth → HasNoneListed watch.old }
-    ensures lesson { IfOk result (Teaches (net_of question.now.graph.now) question.now.fault depth (held_by facts.old) gate.0) }
+    ensures justified { IfOk result (Teaches (net_of question.now.graph.now) question.now.fault depth (held_by facts.old) gate.0) }
     ensures same { IfOk result (λ _. facts.new ≡ facts.old) }
     ensures keeps { IfOk result (λ _. Keeps engine.old engine.new facts.old facts.new) }
     ensures leaves { OnOk result (LeavesList watch.old watch.new) }
-    ensures stays { IfOk result (λ lesson. lesson ≡ None → depth ≡ 0 → watch.old.all ≡ false → StaysTaught (net_of question.now.graph.now) question.now.fault (held_by facts.old) watch.new.rests.entries gate.0) }
+    ensures stays { IfOk result (λ justified. justified ≡ None → depth ≡ 0 → watch.old.all ≡ false → StaysTaught (net_of question.now.graph.now) question.now.fault (held_by facts.old) watch.new.rests.entries gate.0) }
 {
     question.graph.well_formed();
     lines_are_local();
@@ -341,7 +341,7 @@ pub fn lesson_at(
     if common.found && common.goods.is_empty() {
         return Ok(None);
     }
-    Ok(Some(Lesson {
+    Ok(Some(JustifiedValues {
         value,
         drivers,
         found: common.found,
@@ -433,7 +433,7 @@ fn one_more(
         engine.take_back(facts, mark);
         return Ok(before);
     }
-    let more = meet_lesson(watch.alloc(), &before, engine.added_facts(mark), facts)?;
+    let more = meet_justified(watch.alloc(), &before, engine.added_facts(mark), facts)?;
     watch.rest_on_region(question.graph, gate, engine.added_facts(mark), depth)?;
     engine.take_back(facts, mark);
     Ok(more)

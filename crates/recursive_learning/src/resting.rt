@@ -4,7 +4,7 @@ ghost use Rattle.gate_graph.specs.Search.{IsSeen};
 ghost use Rattle.recursive_learning.specs.Resting.{IsLonger, IsWatched};
 ghost use Rattle.recursive_learning.specs.Inner.Resting.{IsIndex};
 
-use refutation::agenda::Agenda;
+use refutation::worklist::Worklist;
 use rm_base::{NoMemory, NodeId};
 use std::alloc::Global;
 use std::marker::Model;
@@ -127,7 +127,7 @@ impl Rests {
     }
 
     /// Lists the gates that rest on the place.
-    pub fn list_at(&self, place: NodeId, listed: &mut Agenda)
+    pub fn list_at(&self, place: NodeId, listed: &mut Worklist)
         requires place { place.0 < self.now.numbers }
         requires room { self.now.numbers ≤ length listed.old }
         ensures kept { (y : ℕ) → IsSeen listed.old y → IsSeen listed.new y }

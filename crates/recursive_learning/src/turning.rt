@@ -1,8 +1,8 @@
 // What looks at gates come to.
 ghost use Rattle.std.specs.Prelude.{◌≡◌, ◌≢◌, false, true};
-ghost use Rattle.recursive_learning.specs.declared.lessons.Round.TheVariants.{Clash, Gained, Quiet};
+ghost use Rattle.recursive_learning.specs.declared.justified_values.Round.TheVariants.{Clash, Gained, Quiet};
 
-use crate::lessons::Round;
+use crate::justified_values::Round;
 
 /// Whether that is a clash.
 pub fn is_clash(round: Round) -> bool

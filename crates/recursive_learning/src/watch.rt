@@ -3,7 +3,7 @@ ghost use Rattle.std.specs.Prelude.{◌≡◌, ◌<◌, ◌≤◌, ℕ, [], IfOk
 ghost use Rattle.gate_net.specs.Net.{IsLive};
 ghost use Rattle.gate_graph.specs.Circuit.{net_of};
 ghost use Rattle.gate_graph.specs.Search.{IsSeen};
-ghost use Rattle.refutation.specs.Agendas.{IsTaken};
+ghost use Rattle.refutation.specs.Worklists.{IsTaken};
 ghost use Rattle.refutation.specs.FactSets.{held_by};
 ghost use Rattle.recursive_learning.specs.Inner.Holding.{ListsNodes, NamesAll, NamesKnown};
 ghost use Rattle.recursive_learning.specs.Resting.{IsWatched};
@@ -13,7 +13,7 @@ ghost use Rattle.recursive_learning.specs.Inner.Watching.{HasNoneListed, IsAroun
 use crate::good_nodes::{list_nodes, push_added, push_known};
 use crate::resting::Rests;
 use gate_graph::Graph;
-use refutation::agenda::Agenda;
+use refutation::worklist::Worklist;
 use refutation::{Fact, FactSet};
 use rm_base::{NoMemory, NodeId};
 use std::alloc::Global;
@@ -25,7 +25,7 @@ use std::alloc::Global;
 pub struct Watch {
     alloc: Global,
     all: bool,
-    listed: Agenda,
+    listed: Worklist,
     rests: Rests,
     first: Vec<NodeId>,
 }
@@ -47,7 +47,7 @@ impl Watch {
         Ok(Watch {
             alloc,
             all: true,
-            listed: Agenda::new(alloc, numbers)?,
+            listed: Worklist::new(alloc, numbers)?,
             rests: Rests::new(alloc, numbers)?,
             first: Vec::new(alloc),
         })

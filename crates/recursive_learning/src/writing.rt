@@ -7,15 +7,15 @@ ghost use Rattle.refutation.specs.FactSets.{held_by, missing};
 ghost use Rattle.refutation.specs.Learning.{LeadsToClash};
 ghost use Rattle.implications.specs.Bases.{IsListed};
 ghost use Rattle.recursive_learning.specs.Inner.Holding.{HasGoods};
-ghost use Rattle.recursive_learning.specs.Inner.Lessons.{IsLesson};
+ghost use Rattle.recursive_learning.specs.Inner.JustifiedValues.{IsJustified};
 ghost use Rattle.recursive_learning.specs.Inner.Telling.{Ends, IsTold};
 ghost use Rattle.recursive_learning.specs.Watching.{HasRoom, LeavesList};
 ghost use Rattle.recursive_learning.specs.Inner.Watching.{IsBlank};
 ghost use Rattle.recursive_learning.specs.Inner.Writing.{CaseClashes, CasesClash, IsPassed, IsWritten, OppositeClashes};
 ghost use Rattle.recursive_learning.specs.Inner.Working.{AreSettled, Keeps};
 
-use crate::learning::lesson_at;
-use crate::lessons::{Choice, GoodValue, Lesson};
+use crate::justified_values::{Choice, GoodValue, JustifiedValues};
+use crate::learning::justified_at;
 use crate::telling::tell;
 use crate::watch::Watch;
 use gate_graph::Question;
@@ -53,7 +53,7 @@ pub fn write(
     Ok(())
 }
 
-// Writes what each gate whose good value is held teaches, once; whether that ends the branch.
+// Writes what each gate whose good value is held implies, once; whether that ends the branch.
 #[cycle(writing)]
 fn write_pass(
     engine: &mut Engine,
@@ -80,7 +80,7 @@ fn write_pass(
     Ok(ended)
 }
 
-/// Writes what each of the gates teaches, in order; whether that ends the branch.
+/// Writes what each of the gates implies, in order; whether that ends the branch.
 #[cycle(writing)]
 pub fn write_each(
     engine: &mut Engine,
@@ -111,7 +111,7 @@ pub fn write_each(
     Ok(false)
 }
 
-// Writes what one gate teaches; whether that ends the branch.
+// Writes what one gate implies; whether that ends the branch.
 #[cycle(writing)]
 fn write_gate(
     engine: &mut Engine,
@@ -133,11 +133,11 @@ fn write_gate(
     ensures leaves { OnOk result (LeavesList watch.old watch.new) }
 {
     let _mark = engine.mark();
-    let Some(lesson) = lesson_at(engine, question, facts, watch, depth, gate)? else {
+    let Some(justified) = justified_at(engine, question, facts, watch, depth, gate)? else {
         return Ok(false);
     };
-    if lesson.found {
-        let ended = write_goods(engine, question, facts, watch, depth, &lesson, tree)?;
+    if justified.found {
+        let ended = write_goods(engine, question, facts, watch, depth, &justified, tree)?;
         return Ok(ended);
     }
     write_cases(
@@ -147,15 +147,15 @@ fn write_gate(
         watch,
         depth,
         &Choice {
-            value: lesson.value,
-            drivers: &lesson.drivers,
+            value: justified.value,
+            drivers: &justified.drivers,
         },
         tree,
     )?;
     Ok(true)
 }
 
-// Writes each value that a gate teaches; whether that ends the branch.
+// Writes each value that a gate implies; whether that ends the branch.
 #[cycle(writing)]
 fn write_goods(
     engine: &mut Engine,
@@ -163,7 +163,7 @@ fn write_goods(
     facts: &mut FactSet,
     watch: &mut Watch,
     depth: u8,
-    lesson: &Lesson,
+    justified: &JustifiedValues,
     tree: &mut TreeBuilder,
 ) -> Result<bool, NoMemory>
     requires numbers { length (net_of question.now.graph.now).nodes ≤ engine.old.numbers }
@@ -172,15 +172,15 @@ fn write_goods(
     requires room { HasRoom (net_of question.now.graph.now) watch.old }
     requires goods { HasGoods watch.old engine.old facts.old }
     requires blank { IsBlank watch.old }
-    requires lesson { (y : ℕ) × IsLesson (net_of question.now.graph.now) question.now.fault depth (held_by facts.old) y lesson.now.value (map (λ n. n.0) lesson.now.drivers.items) lesson.now.found lesson.now.goods.items }
-    requires found { lesson.now.found ≡ true }
+    requires justified { (y : ℕ) × IsJustified (net_of question.now.graph.now) question.now.fault depth (held_by facts.old) y justified.now.value (map (λ n. n.0) justified.now.drivers.items) justified.now.found justified.now.goods.items }
+    requires found { justified.now.found ≡ true }
     ensures told { IfOk result (λ ended. IsTold (net_of question.now.graph.now) question.now.fault (held_by facts.old) tree.old ended (held_by facts.new) tree.new) }
     ensures fewer { IfOk result (λ ended. ended ≡ false → missing facts.new < missing facts.old) }
     ensures keeps { IfOk result (λ _. Keeps engine.old engine.new facts.old facts.new) }
     ensures leaves { OnOk result (LeavesList watch.old watch.new) }
 {
     let _mark = engine.mark();
-    for good in &lesson.goods {
+    for good in &justified.goods {
         if write_good(
             engine,
             question,
@@ -188,8 +188,8 @@ fn write_goods(
             watch,
             depth,
             &Choice {
-                value: lesson.value,
-                drivers: &lesson.drivers,
+                value: justified.value,
+                drivers: &justified.drivers,
             },
             *good,
             tree,
@@ -200,7 +200,7 @@ fn write_goods(
     Ok(false)
 }
 
-// Writes one value that a gate teaches; whether that ends the branch.
+// Writes one value that a gate implies; whether that ends the branch.
 #[cycle(writing)]
 fn write_good(
     engine: &mut Engine,
@@ -238,7 +238,7 @@ fn write_good(
     write_split(engine, question, facts, watch, depth, choice, good, tree)
 }
 
-// Writes a split on a value that a gate teaches, the opposite first; whether the second branch has ended too.
+// Writes a split on a value that a gate implies, the opposite first; whether the second branch has ended too.
 #[cycle(writing)]
 fn write_split(
     engine: &mut Engine,

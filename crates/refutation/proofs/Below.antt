@@ -1,5 +1,5 @@
 -- The node of a fact that a line gives is live.
-use Rattle.gate_looks.proofs.Public.{kind_live}
+use Rattle.local_evaluation.proofs.Public.{kind_live}
 use Rattle.std.proofs.Common.{IfSome, None, Option, Some, length, ℕ, ◌<◌}
 use Rattle.gate_net.specs.Net.{IsWellFormed, Net}
 use Rattle.gate_net.specs.Values.{HasPin}

@@ -1,7 +1,7 @@
 -- The node of a fact that a line gives is live.
 use Rattle.std.proofs.Common.{List, ap, ℕ}
 use Rattle.std.specs.Prelude.{slice_get}
-use Rattle.gate_looks.proofs.Public.{chain_live, gate_live}
+use Rattle.local_evaluation.proofs.Public.{chain_live, gate_live}
 use Rattle.gate_net.specs.Net.{IsLive, IsWellFormed, Net, Reads}
 use Rattle.gate_net.specs.Values.{HasPin}
 use Rattle.refutation.specs.Facts.{Held}

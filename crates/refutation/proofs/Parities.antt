@@ -4,9 +4,9 @@ use Rattle.std.proofs.lemmas.Bool.Decides.{eqb_tells}
 use Rattle.std.proofs.lemmas.Bool.{or_cases}
 use Rattle.std.specs.List.{list_any}
 use Rattle.std.specs.Prelude.{nat_eq, slice_get}
-use Rattle.gate_looks.proofs.Public.{many_fail, one_fails, passes_at}
-use Rattle.gate_looks.specs.Pins.{FailsAt, Glances, failing}
-use Rattle.gate_looks.specs.declared.pins.Glance.{Glance}
+use Rattle.local_evaluation.proofs.Public.{many_fail, one_fails, passes_at}
+use Rattle.local_evaluation.specs.Pins.{FailsAt, IsScan, failing}
+use Rattle.local_evaluation.specs.declared.pins.PinScan.{PinScan}
 use Rattle.gate_net.proofs.Public.{is_known_true, parity_turned}
 use Rattle.gate_net.specs.Meaning.{all_but, family, family_value, gate_value, inversion, inversion_in, is_known, parity, turned}
 use Rattle.gate_net.specs.declared.Family.{Family}
@@ -72,7 +72,7 @@ at_any (o ∷ os) (suc q) e = at (is_known false o) (at_any os q e)
 same_number : (n : ℕ) → nat_eq n n ≡ true
 same_number n = elim (eqb_tells n n) [ inl t ↦ t.0 | inr t ↦ absurd (t.1 refl) ]
 
-module _ (g : Glance) (held : Held) (ds : List ℕ) (looks : Glances g false (map (known_equal held) ds)) where
+module _ (g : PinScan) (held : Held) (ds : List ℕ) (looks : IsScan g false (map (known_equal held) ds)) where
   differs_fails : (q d : ℕ) → slice_get ds q ≡ Some d → known_equal held d ≡ Some false → FailsAt (is_known true) (map (known_equal held) ds) q
   differs_fails q d there is = (Some false, (map_at (known_equal held) ds q d there ∙ ap Some is, refl))
 

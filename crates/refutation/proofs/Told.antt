@@ -1,6 +1,6 @@
 -- What the calls of a graph and of the facts tell.
-use Rattle.gate_looks.proofs.Public.{stuck_reads}
-use Rattle.gate_looks.proofs.Public.{kind_is, kind_told}
+use Rattle.local_evaluation.proofs.Public.{stuck_reads}
+use Rattle.local_evaluation.proofs.Public.{kind_is, kind_told}
 use Rattle.std.proofs.Common.{Bool, None, Option, Some, [], ap, refl, sym, ℕ, ◌∙◌, ◌∷◌, ◌≡◌}
 use Rattle.std.specs.Prelude.{slice_get}
 use Rattle.gate_net.specs.Forward.{value_back, value_forward}
@@ -13,7 +13,7 @@ use Rattle.refutation.specs.Facts.{Held, known_faulty}
 use Rattle.refutation.specs.Pins.{known_on, pins_of, stuck_of}
 use Rattle.refutation.specs.declared.pins.Aspect.{Aspect}
 use Rattle.refutation.specs.declared.pins.Aspect.TheVariants.{OfFaulty}
-use Rattle.gate_looks.specs.declared.pins.Stuck.{Stuck}
+use Rattle.local_evaluation.specs.declared.pins.Stuck.{Stuck}
 use Rattle.rm_base.specs.declared.numbers.Fault.{Fault}
 use Rattle.rm_base.proofs.Public.{some_same}
 

@@ -1,13 +1,13 @@
 -- The fact that a line gives, computed.
 use Rattle.std.specs.Prelude.{Bool, None, Option, Some, slice_get, ℕ}
-pub use Rattle.gate_looks.specs.Chains.{GoesOnTo}
+pub use Rattle.local_evaluation.specs.Chains.{GoesOnTo}
 use Rattle.gate_net.specs.Forward.{value_back, value_forward}
 use Rattle.gate_net.specs.Net.{Net, drivers_of, kind_of}
 use Rattle.refutation.specs.Facts.{Held}
 use Rattle.refutation.specs.Lines.{Concludes}
 use Rattle.refutation.specs.Pins.{known_on, pins_of}
 use Rattle.refutation.specs.declared.pins.Aspect.{Aspect}
-use Rattle.gate_looks.specs.declared.pins.Stuck.{Stuck}
+use Rattle.local_evaluation.specs.declared.pins.Stuck.{Stuck}
 use Rattle.refutation.specs.declared.reasoning.Fact.{Fact}
 use Rattle.refutation.specs.declared.reasoning.Line.{Line}
 use Rattle.rm_base.specs.declared.numbers.Fault.{Fault}

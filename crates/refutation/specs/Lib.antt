@@ -1,6 +1,6 @@
-pub use Rattle.gate_looks.specs.Agendas
-pub use Rattle.gate_looks.specs.Reaching
-pub use Rattle.gate_looks.specs.Walks
+pub use Rattle.local_evaluation.specs.Worklists
+pub use Rattle.local_evaluation.specs.Reaching
+pub use Rattle.local_evaluation.specs.Walks
 pub mod Facts
 pub mod Lines
 pub mod Branches

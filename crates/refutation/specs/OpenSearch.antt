@@ -2,7 +2,7 @@
 use Rattle.std.specs.Prelude.{not, ℕ}
 use Rattle.gate_net.specs.Forward.{IsForwardReading, Marking, MarksDetected, MarksQuiet}
 use Rattle.gate_net.specs.Net.{Net}
-pub use Rattle.gate_looks.specs.Reaching.{Matters}
+pub use Rattle.local_evaluation.specs.Reaching.{Matters}
 use Rattle.refutation.specs.Branches.{Branch, here, line, split}
 use Rattle.refutation.specs.Facts.{Held, known_good, with_fact}
 use Rattle.refutation.specs.Lines.{Concludes}

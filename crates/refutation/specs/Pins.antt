@@ -1,7 +1,7 @@
 -- What is known of a gate's pins.
 use Rattle.std.specs.Prelude.{Bool, List, Option, map, ℕ}
-pub use Rattle.gate_looks.specs.Pins.{AreBelow, FailsAt, Glances, failing, pin_value, stuck_of, with_stuck}
-use Rattle.gate_looks.specs.declared.pins.Stuck.{Stuck}
+pub use Rattle.local_evaluation.specs.Pins.{AreBelow, FailsAt, IsScan, failing, pin_value, stuck_of, with_stuck}
+use Rattle.local_evaluation.specs.declared.pins.Stuck.{Stuck}
 use Rattle.refutation.specs.Facts.{Held, known_equal, known_faulty, known_good}
 use Rattle.refutation.specs.declared.pins.Aspect.{Aspect}
 use Rattle.refutation.specs.declared.pins.Aspect.TheVariants.{OfEqual, OfFaulty, OfGood}

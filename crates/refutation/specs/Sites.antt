@@ -1,7 +1,7 @@
 -- What the faulty gate reaches, and its chain.
 use Rattle.std.specs.Prelude.{Bool, length, true, ℕ, ◌≡◌, ◌≤◌}
-pub use Rattle.gate_looks.specs.Reaching.{MarksReached}
-pub use Rattle.gate_looks.specs.Sites.{IsSiteOf, MarksChain, SiteMarks}
+pub use Rattle.local_evaluation.specs.Reaching.{MarksReached}
+pub use Rattle.local_evaluation.specs.Sites.{IsSiteOf, MarksChain, SiteMarks}
 use Rattle.gate_net.specs.Net.{Net}
 
 -- a site whose halves are marked when they are first asked for

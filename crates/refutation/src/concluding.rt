@@ -9,8 +9,10 @@ ghost use Rattle.refutation.specs.Sites.{IsSiteOf, Serves};
 
 use crate::asking::AskedSite;
 use crate::equal_lines::{
-    line_differs_back, line_equal_forward, line_not_differs, line_not_equal, line_side,
+    line_differs_back, line_differs_back_from, line_equal_forward, line_not_differs,
+    line_not_equal, line_side, line_side_from,
 };
+use crate::following::PinWalk;
 use crate::held::FactSet;
 use crate::place_lines::{
     line_act, line_chain, line_chain_asked, line_chain_marked, line_constant, line_out,
@@ -19,8 +21,8 @@ use crate::place_lines::{
 use crate::reasoning::{Fact, Line};
 use crate::site::Site;
 use crate::value_lines::{
-    line_compare, line_faulty_back, line_faulty_forward, line_good_back, line_good_forward,
-    line_to_faulty, line_to_good,
+    line_compare, line_faulty_back, line_faulty_back_from, line_faulty_forward, line_good_back,
+    line_good_back_from, line_good_forward, line_to_faulty, line_to_good,
 };
 use gate_graph::{Marks, Question};
 use rm_base::NodeId;
@@ -88,6 +90,41 @@ fn concluded_marked(
     }
 }
 
+// The same, and by a walk to the pin that the line names.
+fn concluded_along(
+    question: &Question<'_>,
+    facts: &FactSet,
+    line: &Line,
+    site: &Site,
+    walk: &mut PinWalk<'_>,
+) -> Option<(NodeId, Fact)>
+    requires facts { length (net_of question.now.graph.now).nodes ≤ length facts.now }
+    requires site { IsSiteOf (net_of question.now.graph.now) question.now.fault.gate.0 site.now }
+    requires walk { walk.old ≡ net_of question.now.graph.now }
+    ensures answer { IsAnswer (net_of question.now.graph.now) question.now.fault (held_by facts.now) line.now result }
+    ensures walk { walk.new ≡ walk.old }
+{
+    match *line {
+        Line::GoodBack { node, position } => {
+            let driver = walk.driver(node, position);
+            line_good_back_from(question, facts, node, position, driver)
+        }
+        Line::FaultyBack { node, position } => {
+            let driver = walk.driver(node, position);
+            line_faulty_back_from(question, facts, node, position, driver)
+        }
+        Line::DiffersBack { node, position } => {
+            let driver = walk.driver(node, position);
+            line_differs_back_from(question, facts, node, position, driver)
+        }
+        Line::Side { node, position } => {
+            let driver = walk.driver(node, position);
+            line_side_from(question, facts, node, position, driver)
+        }
+        _ => concluded_marked(question, facts, line, site),
+    }
+}
+
 // What a line gives, by marks of the faulty gate that are made when they are first asked for.
 fn concluded_asked(
     question: &Question<'_>,
@@ -141,6 +178,26 @@ pub fn conclude_marked(
 {
     question.graph.well_formed();
     concluded_marked(question, facts, line, site)
+}
+
+/// The same as `conclude_marked`, by a walk to the pins that lines name: `Side` lines on the pins of a gate take the time
+/// of one walk along them together, where they come in the order of the pins.
+pub fn conclude_along(
+    question: &Question<'_>,
+    facts: &FactSet,
+    line: &Line,
+    site: &Site,
+    walk: &mut PinWalk<'_>,
+) -> Option<(NodeId, Fact)>
+    requires facts { length (net_of question.now.graph.now).nodes ≤ length facts.now }
+    requires site { IsSiteOf (net_of question.now.graph.now) question.now.fault.gate.0 site.now }
+    requires walk { walk.old ≡ net_of question.now.graph.now }
+    ensures answer { IsAnswer (net_of question.now.graph.now) question.now.fault (held_by facts.now) line.now result }
+    ensures node { IfSome result (λ r. r.0.0 < length (net_of question.now.graph.now).nodes) }
+    ensures walk { walk.new ≡ walk.old }
+{
+    question.graph.well_formed();
+    concluded_along(question, facts, line, site, walk)
 }
 
 /// The same as `conclude`, by marks of the faulty gate that are made when a line first asks for them: each other line

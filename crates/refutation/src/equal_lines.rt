@@ -1,12 +1,14 @@
 //! Lines on nodes that are equal or differ.
-ghost use Rattle.std.specs.Prelude.{◌≤◌, length};
+ghost use Rattle.std.specs.Prelude.{◌≡◌, ◌<◌, ◌≤◌, IfSome, length, slice_get};
+ghost use Rattle.std.specs.Option.{option_map};
 ghost use Rattle.gate_graph.specs.Circuit.{net_of};
+ghost use Rattle.gate_net.specs.Net.{drivers_of};
 ghost use Rattle.refutation.specs.FactSets.{held_by};
 ghost use Rattle.refutation.specs.Answers.{IsAnswer};
 
 use crate::following::{gate_pins, pin_driver};
-use crate::glances::{all_equal, one_differs, others_equal};
 use crate::held::FactSet;
+use crate::pin_scans::{all_equal, one_differs, others_equal};
 use crate::pins::{Aspect, inversion, is_stuck, known_of};
 use crate::reasoning::{Fact, Line};
 use gate_graph::Question;
@@ -91,6 +93,22 @@ pub fn line_differs_back(
     requires { length (net_of question.now.graph.now).nodes ≤ length facts.now }
     ensures { IsAnswer (net_of question.now.graph.now) question.now.fault (held_by facts.now) (Line.DiffersBack node position) result }
 {
+    let driver = pin_driver(question.graph, node, position);
+    line_differs_back_from(question, facts, node, position, driver)
+}
+
+/// The same of a pin whose driver is known.
+pub(crate) fn line_differs_back_from(
+    question: &Question<'_>,
+    facts: &FactSet,
+    node: NodeId,
+    position: u32,
+    driver: Option<NodeId>,
+) -> Option<(NodeId, Fact)>
+    requires facts { length (net_of question.now.graph.now).nodes ≤ length facts.now }
+    requires driver { option_map (λ n. n.0) driver ≡ slice_get (drivers_of (net_of question.now.graph.now) node.0) position }
+    ensures { IsAnswer (net_of question.now.graph.now) question.now.fault (held_by facts.now) (Line.DiffersBack node position) result }
+{
     let kind = question.graph.kind(node)?;
     if !kind.is_gate() {
         return None;
@@ -102,7 +120,7 @@ pub fn line_differs_back(
     if equal {
         return None;
     }
-    let driver = pin_driver(question.graph, node, position)?;
+    let driver = driver?;
     if !others_equal(gate_pins(question.graph, node), facts, position as usize) {
         return None;
     }
@@ -119,6 +137,23 @@ pub fn line_side(
     requires { length (net_of question.now.graph.now).nodes ≤ length facts.now }
     ensures { IsAnswer (net_of question.now.graph.now) question.now.fault (held_by facts.now) (Line.Side node position) result }
 {
+    let driver = pin_driver(question.graph, node, position);
+    line_side_from(question, facts, node, position, driver)
+}
+
+/// The same of a pin whose driver is known.
+pub(crate) fn line_side_from(
+    question: &Question<'_>,
+    facts: &FactSet,
+    node: NodeId,
+    position: u32,
+    driver: Option<NodeId>,
+) -> Option<(NodeId, Fact)>
+    requires facts { length (net_of question.now.graph.now).nodes ≤ length facts.now }
+    requires driver { option_map (λ n. n.0) driver ≡ slice_get (drivers_of (net_of question.now.graph.now) node.0) position }
+    requires within { IfSome driver (λ d. d.0 < length (net_of question.now.graph.now).nodes) }
+    ensures { IsAnswer (net_of question.now.graph.now) question.now.fault (held_by facts.now) (Line.Side node position) result }
+{
     let kind = question.graph.kind(node)?;
     let value = kind.controlling_value()?;
     let equal = known_of(facts, Aspect::OfEqual, node)?;
@@ -128,7 +163,7 @@ pub fn line_side(
     if is_stuck(&question.fault, node, position) {
         return None;
     }
-    let driver = pin_driver(question.graph, node, position)?;
+    let driver = driver?;
     let same = known_of(facts, Aspect::OfEqual, driver)?;
     if !same {
         return None;

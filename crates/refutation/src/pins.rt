@@ -9,10 +9,10 @@ ghost use Rattle.refutation.specs.Pins.{known_on};
 
 use crate::held::FactSet;
 use crate::reasoning::Fact;
-pub use gate_looks::pins::{
-    Glance, Stuck, at_pin, is_value, junction_back, junction_forward, others_pass, stuck_at,
-};
 use gate_net::{Family, Kind};
+pub use local_evaluation::pins::{
+    PinScan, Stuck, at_pin, is_value, junction_back, junction_forward, others_pass, stuck_at,
+};
 use rm_base::{Fault, NodeId};
 
 /// What may be known of a node: its good value, its faulty value, or whether they are equal.

@@ -1,10 +1,12 @@
 //! Lines on good and faulty values.
-ghost use Rattle.std.specs.Prelude.{◌≤◌, length};
+ghost use Rattle.std.specs.Prelude.{◌≡◌, ◌≤◌, length, slice_get};
+ghost use Rattle.std.specs.Option.{option_map};
 ghost use Rattle.gate_graph.specs.Circuit.{net_of};
+ghost use Rattle.gate_net.specs.Net.{drivers_of};
 ghost use Rattle.refutation.specs.FactSets.{held_by};
 ghost use Rattle.refutation.specs.Answers.{IsAnswer};
 
-use crate::following::{backward_line, both_known, forward_line};
+use crate::following::{backward_from, backward_line, both_known, forward_line};
 use crate::held::FactSet;
 use crate::pins::{Aspect, is_stuck, stuck_at};
 use crate::reasoning::{Fact, Line};
@@ -85,6 +87,58 @@ pub fn line_faulty_back(
         Aspect::OfFaulty,
         node,
         position,
+    )?;
+    Some((driver, Fact::Faulty(value)))
+}
+
+/// The same as `line_good_back`, of a pin whose driver is known.
+pub(crate) fn line_good_back_from(
+    question: &Question<'_>,
+    facts: &FactSet,
+    node: NodeId,
+    position: u32,
+    driver: Option<NodeId>,
+) -> Option<(NodeId, Fact)>
+    requires facts { length (net_of question.now.graph.now).nodes ≤ length facts.now }
+    requires driver { option_map (λ n. n.0) driver ≡ slice_get (drivers_of (net_of question.now.graph.now) node.0) position }
+    ensures { IsAnswer (net_of question.now.graph.now) question.now.fault (held_by facts.now) (Line.GoodBack node position) result }
+{
+    let (driver, value) = backward_from(
+        question.graph,
+        None,
+        facts,
+        Aspect::OfGood,
+        node,
+        position,
+        driver,
+    )?;
+    Some((driver, Fact::Good(value)))
+}
+
+/// The same as `line_faulty_back`, of a pin whose driver is known.
+pub(crate) fn line_faulty_back_from(
+    question: &Question<'_>,
+    facts: &FactSet,
+    node: NodeId,
+    position: u32,
+    driver: Option<NodeId>,
+) -> Option<(NodeId, Fact)>
+    requires facts { length (net_of question.now.graph.now).nodes ≤ length facts.now }
+    requires driver { option_map (λ n. n.0) driver ≡ slice_get (drivers_of (net_of question.now.graph.now) node.0) position }
+    ensures { IsAnswer (net_of question.now.graph.now) question.now.fault (held_by facts.now) (Line.FaultyBack node position) result }
+{
+    if is_stuck(&question.fault, node, position) {
+        return None;
+    }
+    let stuck = stuck_at(&question.fault, node);
+    let (driver, value) = backward_from(
+        question.graph,
+        stuck,
+        facts,
+        Aspect::OfFaulty,
+        node,
+        position,
+        driver,
     )?;
     Some((driver, Fact::Faulty(value)))
 }

@@ -1,13 +1,14 @@
 // What became of each item while a tree was read.
-ghost use Rattle.std.specs.Prelude.{◌≡◌, ◌≤◌, IfOk, OnOk, length};
+ghost use Rattle.std.specs.Prelude.{◌≡◌, ◌<◌, ◌≤◌, IfOk, OnOk, length};
 ghost use Rattle.gate_graph.specs.Circuit.{net_of};
 ghost use Rattle.refutation.specs.Sites.{IsSiteOf};
 
 use crate::premises::{Premise, Premises};
 use crate::trail::Trail;
 use gate_graph::Question;
+use refutation::following::PinWalk;
 use refutation::site::Site;
-use refutation::{Fact, Item, Line, conclude_marked};
+use refutation::{Fact, Item, Line, conclude_along, conclude_marked};
 use rm_base::{NoMemory, NodeId};
 use std::alloc::Global;
 
@@ -117,29 +118,60 @@ impl Account {
         Ok(())
     }
 
+    // Holds what a line gives, where it isn't held, with what it rests on.
+    fn take(&mut self, question: &Question<'_>, line: Line, given: Premise) -> Result<(), NoMemory>
+        requires { given.node.0 < self.old.trail.numbers }
+        ensures { OnOk result (self.new.trail.numbers ≡ self.old.trail.numbers) }
+    {
+        let facts = self.trail.facts();
+        if facts.holds(given.node, given.fact) {
+            return Ok(());
+        }
+        let mark = self.premises.mark();
+        self.premises
+            .ask_for_line(question, facts, &line, given.node)?;
+        self.steps.push(Step::Gave { line, given, mark })?;
+        self.trail.hold(given.node, given.fact)?;
+        Ok(())
+    }
+
+    /// Reads that the node is equal, where the faulty gate doesn't reach it.
+    pub(crate) fn read_outside(
+        &mut self,
+        question: &Question<'_>,
+        site: &Site,
+        node: NodeId,
+    ) -> Result<(), NoMemory>
+        requires site { IsSiteOf (net_of question.now.graph.now) question.now.fault.gate.0 site.now }
+        requires numbers { length (net_of question.now.graph.now).nodes ≤ self.old.trail.numbers }
+        ensures { OnOk result (self.new.trail.numbers ≡ self.old.trail.numbers) }
+    {
+        let line = Line::Out { node };
+        let Some((node, fact)) = conclude_marked(question, self.trail.facts(), &line, site) else {
+            return Ok(());
+        };
+        self.take(question, line, Premise { node, fact })
+    }
+
     // Reads a line; false where its condition isn't met.
     fn read_line(
         &mut self,
         question: &Question<'_>,
         site: &Site,
+        walk: &mut PinWalk<'_>,
         line: Line,
     ) -> Result<bool, NoMemory>
         requires site { IsSiteOf (net_of question.now.graph.now) question.now.fault.gate.0 site.now }
         requires numbers { length (net_of question.now.graph.now).nodes ≤ self.old.trail.numbers }
-        ensures { OnOk result (self.new.trail.numbers ≡ self.old.trail.numbers) }
+        requires walk { walk.old ≡ net_of question.now.graph.now }
+        ensures numbers { OnOk result (self.new.trail.numbers ≡ self.old.trail.numbers) }
+        ensures walk { walk.new ≡ walk.old }
     {
         let facts = self.trail.facts();
-        let Some((node, fact)) = conclude_marked(question, facts, &line, site) else {
+        let Some((node, fact)) = conclude_along(question, facts, &line, site, walk) else {
             return Ok(false);
         };
-        if facts.holds(node, fact) {
-            return Ok(true);
-        }
-        let mark = self.premises.mark();
-        self.premises.ask_for_line(question, facts, &line)?;
-        let given = Premise { node, fact };
-        self.steps.push(Step::Gave { line, given, mark })?;
-        self.trail.hold(node, fact)?;
+        self.take(question, line, Premise { node, fact })?;
         Ok(true)
     }
 
@@ -172,20 +204,24 @@ impl Account {
         self.hold(split.node, Fact::Good(!split.first))
     }
 
-    /// Reads an item; false where it is none of a closed tree, or a line whose condition isn't met.
+    /// Reads an item; false where it is none of a closed tree, or a line whose condition isn't met. The walk goes to the
+    /// pins that lines name.
     pub(crate) fn read(
         &mut self,
         question: &Question<'_>,
         site: &Site,
+        walk: &mut PinWalk<'_>,
         item: Item,
     ) -> Result<bool, NoMemory>
         requires site { IsSiteOf (net_of question.now.graph.now) question.now.fault.gate.0 site.now }
         requires numbers { length (net_of question.now.graph.now).nodes ≤ self.old.trail.numbers }
-        ensures { OnOk result (self.new.trail.numbers ≡ self.old.trail.numbers) }
+        requires walk { walk.old ≡ net_of question.now.graph.now }
+        ensures numbers { OnOk result (self.new.trail.numbers ≡ self.old.trail.numbers) }
+        ensures walk { walk.new ≡ walk.old }
     {
         let mark = self.premises.mark();
         match item {
-            Item::Line(line) => return self.read_line(question, site, line),
+            Item::Line(line) => return self.read_line(question, site, walk, line),
             Item::Split { node, first } => self.split(node, first)?,
             Item::Clash(node) => {
                 self.premises.ask_for_clash(self.trail.facts(), node)?;

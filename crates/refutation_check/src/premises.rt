@@ -3,7 +3,7 @@ ghost use Rattle.std.specs.Prelude.{◌≡◌};
 ghost use Rattle.gate_graph.specs.Circuit.{net_of};
 
 use gate_graph::{Graph, Inputs, Question};
-use refutation::following::{gate_pins, pin_driver};
+use refutation::following::gate_pins;
 use refutation::pins::{Aspect, Stuck, at_pin, is_value, known_of, stuck_at};
 use refutation::{Fact, FactSet, Line};
 use rm_base::{FIRST_SOURCE, NoMemory, NodeId};
@@ -220,20 +220,6 @@ impl Premises {
         self.ask_drivers(gate_pins(graph, node), None, but, facts, Aspect::OfEqual)
     }
 
-    // That a pin's driver is equal.
-    fn ask_equal_at(
-        &mut self,
-        graph: &Graph,
-        facts: &FactSet,
-        node: NodeId,
-        position: u32,
-    ) -> Result<(), NoMemory> {
-        match pin_driver(graph, node, position) {
-            Some(driver) => self.ask(facts, Aspect::OfEqual, driver),
-            None => Ok(()),
-        }
-    }
-
     // Two things that are known of a node.
     fn ask_both(
         &mut self,
@@ -246,12 +232,13 @@ impl Premises {
         self.ask(facts, other, node)
     }
 
-    /// What a line rests on whose condition these facts meet.
+    /// What a line rests on whose condition these facts meet and which gives a fact of that node.
     pub(crate) fn ask_for_line(
         &mut self,
         question: &Question<'_>,
         facts: &FactSet,
         line: &Line,
+        given: NodeId,
     ) -> Result<(), NoMemory> {
         match *line {
             Line::Act | Line::Site | Line::Chain { .. } | Line::Out { .. } => Ok(()),
@@ -290,9 +277,9 @@ impl Premises {
                 self.ask(facts, Aspect::OfEqual, node)?;
                 self.ask_equals(question.graph, Some(position), facts, node)
             }
-            Line::Side { node, position } => {
+            Line::Side { node, .. } => {
                 self.ask(facts, Aspect::OfEqual, node)?;
-                self.ask_equal_at(question.graph, facts, node, position)
+                self.ask(facts, Aspect::OfEqual, given)
             }
         }
     }

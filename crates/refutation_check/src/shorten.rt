@@ -8,6 +8,7 @@ use crate::check::check_tree;
 use crate::kept::Kept;
 use crate::refusals::CheckRefusal;
 use gate_graph::Question;
+use refutation::following::PinWalk;
 use refutation::site::Site;
 use refutation::{Form, Item, Tree};
 use rm_base::NoMemory;
@@ -22,8 +23,9 @@ fn kept_of(
     let mut site = Site::new(alloc, question.graph.node_bound())?;
     site.mark(question.graph, question.fault.gate);
     let mut account = Account::new(alloc, question.graph.node_bound())?;
+    let mut walk = PinWalk::new(question.graph);
     for item in items {
-        if !account.read(question, &site, *item)? {
+        if !account.read(question, &site, &mut walk, *item)? {
             return Ok(None);
         }
     }

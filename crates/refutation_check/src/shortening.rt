@@ -9,7 +9,7 @@ use crate::checker::TreeChecker;
 use crate::kept::Kept;
 use crate::refusals::CheckRefusal;
 use gate_graph::{Graph, Question};
-use refutation::following::{gate_pins, pin_driver};
+use refutation::following::{PinWalk, gate_pins};
 use refutation::site::Site;
 use refutation::{Fact, Form, Item, Line, Tree};
 use rm_base::{NoMemory, NodeId};
@@ -52,8 +52,7 @@ fn ask_at(
     if account.holds(node, Fact::Equal) {
         return Ok(());
     }
-    let _is_outside = account.read(question, site, Item::Line(Line::Out { node }))?;
-    Ok(())
+    account.read_outside(question, site, node)
 }
 
 // Reads so what isn't reached of a node and its drivers.
@@ -104,11 +103,14 @@ fn ask_for_line(
     question: &Question<'_>,
     site: &Site,
     account: &mut Account,
+    walk: &mut PinWalk<'_>,
     line: Line,
 ) -> Result<(), NoMemory>
     requires site { IsSiteOf (net_of question.now.graph.now) question.now.fault.gate.0 site.now }
     requires numbers { length (net_of question.now.graph.now).nodes ≤ account.old.trail.numbers }
-    ensures { OnOk result (account.new.trail.numbers ≡ account.old.trail.numbers) }
+    requires walk { walk.old ≡ net_of question.now.graph.now }
+    ensures numbers { OnOk result (account.new.trail.numbers ≡ account.old.trail.numbers) }
+    ensures walk { walk.new ≡ walk.old }
 {
     match line {
         Line::ToFaulty { node } | Line::ToGood { node } | Line::NotEqual { node } => {
@@ -118,7 +120,7 @@ fn ask_for_line(
             ask_around(question, site, account, node)
         }
         Line::NotDiffers { node } => ask_beside(question, site, account, node),
-        Line::Side { node, position } => match pin_driver(question.graph, node, position) {
+        Line::Side { node, position } => match walk.driver(node, position) {
             Some(driver) => ask_at(question, site, account, driver),
             None => Ok(()),
         },
@@ -134,14 +136,17 @@ fn ask_for(
     question: &Question<'_>,
     site: &Site,
     account: &mut Account,
+    walk: &mut PinWalk<'_>,
     item: Item,
 ) -> Result<(), NoMemory>
     requires site { IsSiteOf (net_of question.now.graph.now) question.now.fault.gate.0 site.now }
     requires numbers { length (net_of question.now.graph.now).nodes ≤ account.old.trail.numbers }
-    ensures { OnOk result (account.new.trail.numbers ≡ account.old.trail.numbers) }
+    requires walk { walk.old ≡ net_of question.now.graph.now }
+    ensures numbers { OnOk result (account.new.trail.numbers ≡ account.old.trail.numbers) }
+    ensures walk { walk.new ≡ walk.old }
 {
     match item {
-        Item::Line(line) => ask_for_line(question, site, account, line),
+        Item::Line(line) => ask_for_line(question, site, account, walk, line),
         Item::Clash(node) => ask_at(question, site, account, node),
         Item::Split { .. } | Item::Quiet | Item::Here | Item::Untried => Ok(()),
     }
@@ -158,8 +163,9 @@ fn ask_for_all(
     requires numbers { length (net_of question.now.graph.now).nodes ≤ account.old.trail.numbers }
     ensures { OnOk result (account.new.trail.numbers ≡ account.old.trail.numbers) }
 {
+    let mut walk = PinWalk::new(question.graph);
     for item in items {
-        ask_for(question, site, account, *item)?;
+        ask_for(question, site, account, &mut walk, *item)?;
     }
     Ok(())
 }
@@ -174,8 +180,9 @@ fn read_all(
     requires site { IsSiteOf (net_of question.now.graph.now) question.now.fault.gate.0 site.now }
     requires numbers { length (net_of question.now.graph.now).nodes ≤ account.old.trail.numbers }
 {
+    let mut walk = PinWalk::new(question.graph);
     for item in items {
-        if !account.read(question, site, *item)? {
+        if !account.read(question, site, &mut walk, *item)? {
             return Ok(false);
         }
     }

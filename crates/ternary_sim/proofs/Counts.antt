@@ -6,7 +6,7 @@ use Rattle.gate_graph.specs.Search.{IsSeen}
 use Rattle.gate_net.specs.Forward.{both_known_different}
 use Rattle.ternary_sim.specs.Marks.{mark_at, no_marks}
 use Rattle.ternary_sim.specs.Inner.Settling.{plain_marks}
-use Rattle.ternary_sim.specs.Inner.Sheets.{is_different, is_open, one_if, watched_at, watched_count}
+use Rattle.ternary_sim.specs.Inner.ValueTables.{is_different, is_open, one_if, watched_at, watched_count}
 use Rattle.ternary_sim.specs.declared.marks.NodeMarks.{NodeMarks}
 
 pub count-set : (test : NodeMarks → Bool) (watched : List Bool) (marks : List NodeMarks) (x : ℕ) (r : NodeMarks) → x < length marks → watched_count test watched (slice_set marks x r) + one_if (watched_at watched x && test (mark_at marks x)) ≡ watched_count test watched marks + one_if (watched_at watched x && test r)

@@ -11,8 +11,8 @@ use Rattle.gate_net.specs.Forward.{AgreeOn, IsForwardReading, Marking, both_know
 use Rattle.gate_net.proofs.Public.{list_all_agree, node_live, reads_agree}
 use Rattle.gate_net.specs.Net.{IsLive, IsWellFormed, Net, Node, Reads, drivers_in, drivers_of, node_at}
 use Rattle.gate_net.specs.Values.{HasPin, faulty_reads}
-use Rattle.gate_looks.proofs.Public.{live_below, reader_live}
-use Rattle.gate_looks.specs.Pins.{AreBelow}
+use Rattle.local_evaluation.proofs.Public.{live_below, reader_live}
+use Rattle.local_evaluation.specs.Pins.{AreBelow}
 use Rattle.rm_base.specs.declared.numbers.Fault.{Fault}
 use Rattle.ternary_sim.specs.Marks.{IsReadAt, equal_at, faulty_at, good_at, mark_at, marking, no_marks}
 use Rattle.ternary_sim.specs.Inner.Sims.{AreRead, IsMarked}

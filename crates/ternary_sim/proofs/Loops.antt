@@ -10,8 +10,8 @@ use Rattle.gate_net.specs.declared.Family.{Family}
 use Rattle.gate_net.specs.declared.Family.TheVariants.{Constant, Input, Junction, Parity}
 use Rattle.gate_net.specs.declared.Kind.{Kind}
 use Rattle.gate_net.specs.declared.Kind.TheVariants.{Source}
-use Rattle.gate_looks.proofs.Public.{source_is}
-use Rattle.gate_looks.specs.Pins.{AreBelow}
+use Rattle.local_evaluation.proofs.Public.{source_is}
+use Rattle.local_evaluation.specs.Pins.{AreBelow}
 use Rattle.rm_base.specs.declared.numbers.Fault.{Fault}
 use Rattle.rm_base.specs.declared.numbers.NodeId.{NodeId}
 use Rattle.rm_base.specs.declared.vectors.Value3.{Value3}

@@ -8,9 +8,9 @@ use Rattle.gate_graph.proofs.Public.{none_seen, seen_cases, seen_kept, seen_new,
 use Rattle.gate_graph.specs.Search.{IsSeen, unseen}
 use Rattle.gate_net.specs.Net.{IsLive, IsWellFormed, Net, Reads}
 use Rattle.gate_net.specs.Paths.{Reaches, on, pin}
-use Rattle.gate_looks.specs.Agendas.{seen_count}
-use Rattle.gate_looks.proofs.Public.{count-set, seen_left, seen_stays}
-use Rattle.gate_looks.specs.Reaching.{search_left}
+use Rattle.local_evaluation.specs.Worklists.{seen_count}
+use Rattle.local_evaluation.proofs.Public.{count-set, seen_left, seen_stays}
+use Rattle.local_evaluation.specs.Reaching.{search_left}
 use Rattle.rm_base.specs.declared.numbers.Fault.{Fault}
 use Rattle.ternary_sim.proofs.Beginnings.{live_touched}
 use Rattle.ternary_sim.proofs.Wholes.{driver_of_concerned}

@@ -6,10 +6,10 @@ use Rattle.std.specs.Prelude.{IsTrue, slice_get, ◌↔◌}
 use Rattle.gate_graph.specs.Search.{IsSeen}
 use Rattle.gate_net.specs.Forward.{MarksDetected, MarksQuiet}
 use Rattle.gate_net.specs.Net.{IsObserved, IsWellFormed, Net}
-use Rattle.gate_looks.proofs.Public.{live_below}
+use Rattle.local_evaluation.proofs.Public.{live_below}
 use Rattle.ternary_sim.specs.Marks.{marking}
-use Rattle.ternary_sim.specs.Sheets.{SheetState, Watches}
-use Rattle.ternary_sim.specs.Inner.Sheets.{AllEqual, SomeDiffers}
+use Rattle.ternary_sim.specs.ValueTables.{TableState, Watches}
+use Rattle.ternary_sim.specs.Inner.ValueTables.{AllEqual, SomeDiffers}
 
 front_seen : (watched : List Bool) (b : Bool) (x : ℕ) → x < length watched → slice_get (watched ++ b ∷ []) x ≡ slice_get watched x
 front_seen [] b x h = absurd (omega arith)
@@ -44,13 +44,13 @@ watches_all net watched formed size each x = elim (cases_lt x (length net.nodes)
 ]
 
 -- what the watched nodes say of the observed ones
-pub detected_watched : (net : Net) (s : SheetState) (b : Bool) → Watches net s.watched → (IsTrue b ↔ SomeDiffers s) → IsTrue b ↔ MarksDetected net (marking s.marks)
+pub detected_watched : (net : Net) (s : TableState) (b : Bool) → Watches net s.watched → (IsTrue b ↔ SomeDiffers s) → IsTrue b ↔ MarksDetected net (marking s.marks)
 detected_watched net s b watches h = (
   λ e. let d = h.0 e in (d.0, ((watches d.0).0 d.1.0, d.1.1)),
   λ d. h.1 (d.0, ((watches d.0).1 d.1.0, d.1.1)),
 )
 
-pub quiet_watched : (net : Net) (s : SheetState) (b : Bool) → Watches net s.watched → (IsTrue b ↔ AllEqual s) → IsTrue b ↔ MarksQuiet net (marking s.marks)
+pub quiet_watched : (net : Net) (s : TableState) (b : Bool) → Watches net s.watched → (IsTrue b ↔ AllEqual s) → IsTrue b ↔ MarksQuiet net (marking s.marks)
 quiet_watched net s b watches h = (
   λ e x observed. h.0 e x ((watches x).1 observed),
   λ q. h.1 (λ x seen. q x ((watches x).0 seen)),

@@ -9,7 +9,7 @@ use Rattle.gate_net.proofs.Public.{along_pins, reads_elsewhere, same_bool_refl}
 use Rattle.gate_net.specs.Net.{IsAcyclic, Net, Reads, drivers_of, node_at}
 use Rattle.gate_net.specs.Paths.{Reaches, on, pin}
 use Rattle.gate_net.specs.Values.{faulty_reads}
-use Rattle.gate_looks.specs.Reaching.{Matters}
+use Rattle.local_evaluation.specs.Reaching.{Matters}
 use Rattle.rm_base.specs.declared.numbers.Fault.{Fault}
 use Rattle.ternary_sim.proofs.InOrder.{read_agrees}
 use Rattle.ternary_sim.proofs.Rewriting.{same_marks}

@@ -1,6 +1,6 @@
 pub mod Marks
 pub mod Sims
 pub mod Regions
-pub mod Sheets
+pub mod ValueTables
 pub mod Tracking
 pub mod Inner

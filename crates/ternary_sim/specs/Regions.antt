@@ -4,8 +4,8 @@ use Rattle.gate_graph.specs.Search.{IsSeen}
 use Rattle.gate_net.specs.Forward.{AgreeOn, IsForwardReading, Marking, MarksDetected, MarksQuiet}
 use Rattle.gate_net.specs.Net.{IsAcyclic, Net}
 use Rattle.gate_net.specs.Paths.{Reaches}
-use Rattle.gate_looks.specs.Reaching.{Matters}
-use Rattle.gate_looks.specs.Reaching.{search_left}
+use Rattle.local_evaluation.specs.Reaching.{Matters}
+use Rattle.local_evaluation.specs.Reaching.{search_left}
 use Rattle.rm_base.specs.declared.numbers.Fault.{Fault}
 use Rattle.ternary_sim.specs.Marks.{IsReadAt, good_at, mark_at, marking}
 use Rattle.ternary_sim.specs.declared.marks.NodeMarks.{NodeMarks}

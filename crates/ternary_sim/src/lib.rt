@@ -1,4 +1,5 @@
-//! Three-valued simulation of a net and of a stuck-at fault on it: what follows forward from the sources that are known.
+//! Three-valued simulation of a net and of a stuck-at fault on it: what follows forward from the sources that are known, each node
+//! having a value without the fault and one with it (the D-calculus: Roth 1966).
 #![tactic(auto)]
 
 mod beginning;
@@ -7,8 +8,8 @@ mod marks;
 mod reading;
 mod region;
 mod settling;
-mod sheet;
 mod simulator;
+mod table;
 mod tracker;
 mod trail;
 

@@ -2,15 +2,15 @@
 ghost use Rattle.std.specs.Prelude.{◌≡◌, ◌<◌, ◌≤◌, length, map};
 ghost use Rattle.std.specs.List.{list_all};
 ghost use Rattle.gate_net.specs.Meaning.{kind_forward};
-ghost use Rattle.gate_looks.specs.Pins.{with_stuck, AreBelow};
+ghost use Rattle.local_evaluation.specs.Pins.{with_stuck, AreBelow};
 ghost use Rattle.ternary_sim.specs.Marks.{seen, equal_at};
 ghost use Rattle.ternary_sim.specs.Inner.Marks.{known_in};
 ghost use Rattle.rm_base.specs.Numbers.{number_bound};
 
 use gate_graph::Inputs;
-use gate_looks::glances::{Known, node_forward};
-use gate_looks::pins::Stuck;
 use gate_net::Kind;
+use local_evaluation::pin_scans::{Known, node_forward};
+use local_evaluation::pins::Stuck;
 use rm_base::NodeId;
 use rm_base::vectors::Value3;
 

@@ -6,7 +6,7 @@ ghost use Rattle.std.specs.List.{list_all};
 ghost use Rattle.gate_net.specs.Forward.{node_forward, is_idle, both_known_same};
 ghost use Rattle.gate_net.specs.declared.Kind.TheVariants.{Source};
 ghost use Rattle.gate_graph.specs.Circuit.{net_of};
-ghost use Rattle.gate_looks.specs.Pins.{AreBelow, with_stuck};
+ghost use Rattle.local_evaluation.specs.Pins.{AreBelow, with_stuck};
 ghost use Rattle.ternary_sim.specs.Marks.{IsReadAt, marking, known_source, good_at, equal_at};
 ghost use Rattle.ternary_sim.specs.Inner.Marks.{known_in};
 ghost use Rattle.gate_graph.specs.Order.{IsOrder};
@@ -14,9 +14,9 @@ ghost use Rattle.ternary_sim.specs.Inner.Sims.{IsMarked, AreRead};
 
 use crate::marks::{NodeMarks, Reading, all_equal, known_value, value_from};
 use gate_graph::Graph;
-use gate_looks::drivers::gate_pins;
-use gate_looks::pins::{Stuck, is_value, stuck_at};
 use gate_net::Kind;
+use local_evaluation::drivers::gate_pins;
+use local_evaluation::pins::{Stuck, is_value, stuck_at};
 use rm_base::vectors::Value3;
 use rm_base::{FIRST_SOURCE, Fault, NodeId};
 

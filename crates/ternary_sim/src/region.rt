@@ -3,15 +3,15 @@ ghost use Rattle.std.specs.Prelude.{◌≡◌, ◌<◌, ◌≤◌, ◌↔◌, �
 ghost use Rattle.gate_graph.specs.Circuit.{net_of};
 ghost use Rattle.gate_graph.specs.Search.{IsSeen};
 ghost use Rattle.gate_net.specs.Net.{IsLive, Reads};
-ghost use Rattle.gate_looks.specs.Agendas.{ListsMarked};
-ghost use Rattle.gate_looks.specs.Pins.{AreBelow};
-ghost use Rattle.gate_looks.specs.Reaching.{MarksReached};
+ghost use Rattle.local_evaluation.specs.Worklists.{ListsMarked};
+ghost use Rattle.local_evaluation.specs.Pins.{AreBelow};
+ghost use Rattle.local_evaluation.specs.Reaching.{MarksReached};
 ghost use Rattle.ternary_sim.specs.Regions.{IsTouched, MarksMore, MarksRegion};
 
 use gate_graph::{Graph, Question};
-use gate_looks::agenda::Agenda;
-use gate_looks::drivers::gate_pins;
-use gate_looks::site::Site;
+use local_evaluation::drivers::gate_pins;
+use local_evaluation::site::Site;
+use local_evaluation::worklist::Worklist;
 use rm_base::{NoMemory, NodeId};
 use std::alloc::Global;
 use std::marker::Model;
@@ -20,8 +20,8 @@ use std::marker::Model;
 /// node numbers below a bound, and serve one fault after another.
 #[derive(Drop)]
 pub struct Region {
-    marks: Agenda,
-    waiting: Agenda,
+    marks: Worklist,
+    waiting: Worklist,
 }
 
 impl Model for Region {
@@ -37,7 +37,7 @@ impl Model for Region {
 }
 
 // Marks a number, and lists it where it wasn't marked.
-fn mark_one(marks: &mut Agenda, waiting: &mut Agenda, node: NodeId)
+fn mark_one(marks: &mut Worklist, waiting: &mut Worklist, node: NodeId)
     requires marks { node.0 < length marks.old }
     requires waiting { node.0 < length waiting.old }
     ensures marked { MarksMore (λ z. z ≡ node.0) marks.old marks.new waiting.old waiting.new }
@@ -51,7 +51,7 @@ fn mark_one(marks: &mut Agenda, waiting: &mut Agenda, node: NodeId)
 }
 
 // Marks the drivers of a node, and lists those that weren't marked.
-fn mark_drivers(graph: &Graph, node: NodeId, marks: &mut Agenda, waiting: &mut Agenda)
+fn mark_drivers(graph: &Graph, node: NodeId, marks: &mut Worklist, waiting: &mut Worklist)
     requires node { IsLive (net_of graph.now) node.0 }
     requires marks { length (net_of graph.now).nodes ≤ length marks.old }
     requires waiting { length (net_of graph.now).nodes ≤ length waiting.old }
@@ -65,7 +65,7 @@ fn mark_drivers(graph: &Graph, node: NodeId, marks: &mut Agenda, waiting: &mut A
 }
 
 // Marks the numbers of a list, and lists those that weren't marked.
-fn mark_all(numbers: &[u32], marks: &mut Agenda, waiting: &mut Agenda)
+fn mark_all(numbers: &[u32], marks: &mut Worklist, waiting: &mut Worklist)
     requires marks { AreBelow numbers.now (length marks.old) }
     requires waiting { AreBelow numbers.now (length waiting.old) }
     ensures marked { MarksMore (λ z. (k : ℕ) × (slice_get numbers.now k ≡ Some z)) marks.old marks.new waiting.old waiting.new }
@@ -78,7 +78,13 @@ fn mark_all(numbers: &[u32], marks: &mut Agenda, waiting: &mut Agenda)
 }
 
 // Marks the gate and what it reaches, and lists those that weren't marked.
-fn mark_touched(graph: &Graph, gate: NodeId, site: &Site, marks: &mut Agenda, waiting: &mut Agenda)
+fn mark_touched(
+    graph: &Graph,
+    gate: NodeId,
+    site: &Site,
+    marks: &mut Worklist,
+    waiting: &mut Worklist,
+)
     requires gate { IsLive (net_of graph.now) gate.0 }
     requires site { MarksReached (net_of graph.now) gate.0 site.now.reached }
     requires marks { length (net_of graph.now).nodes ≤ length marks.old }
@@ -91,8 +97,8 @@ fn mark_touched(graph: &Graph, gate: NodeId, site: &Site, marks: &mut Agenda, wa
     mark_all(site.reached_numbers(), marks, waiting);
 }
 
-// Marks what the fault concerns, over an agenda with nothing on. What was marked before is taken off by its list.
-fn mark_region(question: &Question<'_>, site: &Site, marks: &mut Agenda, waiting: &mut Agenda)
+// Marks what the fault concerns, over a worklist with nothing on. What was marked before is taken off by its list.
+fn mark_region(question: &Question<'_>, site: &Site, marks: &mut Worklist, waiting: &mut Worklist)
     requires gate { IsLive (net_of question.now.graph.now) question.now.fault.gate.0 }
     requires site { MarksReached (net_of question.now.graph.now) question.now.fault.gate.0 site.now.reached }
     requires marks { length (net_of question.now.graph.now).nodes ≤ length marks.old }
@@ -115,8 +121,8 @@ impl Region {
     pub fn new(alloc: Global, numbers: u32) -> Result<Region, NoMemory>
         ensures { IfOk result (λ r. r ≡ replicate numbers false) }
     {
-        let marks = Agenda::new(alloc, numbers)?;
-        let waiting = Agenda::new(alloc, numbers)?;
+        let marks = Worklist::new(alloc, numbers)?;
+        let waiting = Worklist::new(alloc, numbers)?;
         Ok(Region { marks, waiting })
     }
 

@@ -5,7 +5,7 @@ ghost use Rattle.gate_net.specs.Net.{Net, source_count};
 ghost use Rattle.gate_net.specs.Values.{IsRun};
 ghost use Rattle.gate_net.specs.Forward.{Completes, IsForwardReading, IsTrueAt, MarksDetected, MarksQuiet, both_known_different};
 ghost use Rattle.gate_graph.specs.Circuit.{net_of};
-ghost use Rattle.gate_looks.specs.Pins.{AreBelow};
+ghost use Rattle.local_evaluation.specs.Pins.{AreBelow};
 ghost use Rattle.ternary_sim.specs.Marks.{seen, marking, known_source, good_at, faulty_at, equal_at};
 ghost use Rattle.ternary_sim.specs.Sims.{Fits};
 

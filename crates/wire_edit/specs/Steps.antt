@@ -10,6 +10,20 @@ use Rattle.wire_edit.specs.Changes.{Change, append, remove, fix, readers, new_no
 use Rattle.wire_edit.specs.declared.steps.Step.{Step}
 use Rattle.wire_edit.specs.declared.steps.Step.TheVariants.{Add, Fix, NewNot, Const, Same, NoPins, OnePin, Twice, Twin, Dead}
 use Rattle.wire_edit.specs.Tests.{is_present, is_live, is_junction, is_not, is_xor, is_gate, reads_several, control_of, family_of, other_position, driver_at, constant_at, second_driver, is_among, is_in_use, is_repeated}
+use Rattle.rm_base.specs.declared.numbers.NodeId.{NodeId}
+
+-- the gate at which a step is made; of a new Not, the node that it reads
+abbrev pub gate_of_step : Step → NodeId
+gate_of_step (Add gate node) = gate
+gate_of_step (Fix gate position value) = gate
+gate_of_step (NewNot node) = node
+gate_of_step (Const gate position) = gate
+gate_of_step (Same gate position) = gate
+gate_of_step (NoPins gate) = gate
+gate_of_step (OnePin gate) = gate
+gate_of_step (Twice gate) = gate
+gate_of_step (Twin gate other) = gate
+gate_of_step (Dead gate) = gate
 
 abbrev pub is_not_at : Net → Option ℕ → Bool
 is_not_at net None = false

@@ -1,4 +1,7 @@
 //! The steps by which a net changes.
+ghost use Rattle.std.specs.Prelude.{◌≡◌};
+ghost use Rattle.wire_edit.specs.Steps.{gate_of_step};
+
 use rm_base::NodeId;
 
 /// One change of a net. A position counts the pins of its gate from 0.
@@ -50,6 +53,26 @@ pub enum Step {
     Dead {
         gate: NodeId,
     },
+}
+
+impl Step {
+    /// The gate at which the step is made; of a new Not, the node that it reads.
+    pub fn gate(self) -> NodeId
+        ensures { result ≡ gate_of_step self }
+    {
+        match self {
+            Step::Add { gate, .. }
+            | Step::Fix { gate, .. }
+            | Step::Const { gate, .. }
+            | Step::Same { gate, .. }
+            | Step::NoPins { gate }
+            | Step::OnePin { gate }
+            | Step::Twice { gate }
+            | Step::Twin { gate, .. }
+            | Step::Dead { gate } => gate,
+            Step::NewNot { node } => node,
+        }
+    }
 }
 
 /// The local rules: all steps but `Add` and `Fix`.

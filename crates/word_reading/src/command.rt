@@ -89,18 +89,18 @@ pub enum Command<'a> {
 
 /// Why no command was read.
 #[derive(Clone, Copy, PartialEq, Eq)]
-pub enum WordFault {
+pub enum UsageError {
     /// The words ask for nothing.
     Refused,
     /// Want of memory.
     NoMemory,
 }
 
-impl fmt::Display for WordFault {
+impl fmt::Display for UsageError {
     fn fmt<W: fmt::Write>(&self, f: &mut fmt::Formatter<W>) -> fmt::Result {
         match self {
-            WordFault::Refused => f.write_str("the words ask for no command"),
-            WordFault::NoMemory => f.write_str("out of memory"),
+            UsageError::Refused => f.write_str("the words ask for no command"),
+            UsageError::NoMemory => f.write_str("out of memory"),
         }
     }
 }

@@ -10,7 +10,7 @@ mod reading;
 mod requests;
 mod window_names;
 
-pub use command::{Command, WordFault};
+pub use command::{Command, UsageError};
 pub use options::{
     LEAST_BUDGET, LEAST_WIDTH, LEAST_WORKERS, MOST_BUDGET, MOST_DEPTH, MOST_MERGE, MOST_PERTURB,
     MOST_SHIFT, MOST_TRIES, MOST_WIDTH, MOST_WORK, MOST_WORKERS, USUAL_BUDGET, USUAL_DEPTH,

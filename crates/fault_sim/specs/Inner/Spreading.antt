@@ -1,13 +1,13 @@
--- How a fault spreads through the order of the nodes.
-use Rattle.std.specs.Prelude.{IsTrue, bit_xor, List, None, Option, Some, if◌then◌else◌, length, nat_eq, slice_get, slice_index, slice_set, ℕ, ◌<◌, ◌≡◌, ◌≢◌, ◌≤◌, ◌⊎◌}
-use Rattle.gate_net.specs.Net.{IsObserved, Net, Reads, node_at}
-use Rattle.gate_net.specs.Values.{faulty_reads, node_value}
+-- How another word of a node spreads through the order of the nodes.
+use Rattle.std.specs.Prelude.{IsTrue, bit_xor, List, None, Option, Some, if◌then◌else◌, length, map, nat_eq, slice_get, slice_index, slice_set, ℕ, ◌<◌, ◌≡◌, ◌≢◌, ◌≤◌, ◌⊎◌}
+use Rattle.gate_net.specs.Net.{IsObserved, Net, Reads, drivers_of, node_at}
+use Rattle.gate_net.specs.Values.{node_value}
 use Rattle.rm_base.specs.declared.numbers.Fault.{Fault}
 use Rattle.fault_sim.specs.Pending.{IsIdle, IsPending}
 use Rattle.fault_sim.specs.Inner.Pending.{HasRoom, IsUnmarked}
 use Rattle.fault_sim.specs.Simulating.{AreNoOthers}
-use Rattle.fault_sim.specs.Words.{assignment, lane}
-use Rattle.fault_sim.specs.Inner.Words.{word_of}
+use Rattle.fault_sim.specs.Words.{assigned_word, assignment, lane}
+use Rattle.fault_sim.specs.Inner.Words.{node_word, word_of}
 use Rattle.fault_sim.specs.declared.reading.StuckWord.{StuckWord}
 use Rattle.fault_sim.specs.declared.spread.Spread.{Spread}
 
@@ -21,9 +21,14 @@ abbrev pub pin_word : Option StuckWord → ℕ → ℕ → ℕ
 pin_word None q w = w
 pin_word (Some s) q w = if nat_eq q s.position then s.word else w
 
--- the stuck pin, where the gate has it
-abbrev pub stuck_word : Fault → ℕ → Option StuckWord
-stuck_word fault y = if nat_eq y fault.gate.0 then Some (record { position = fault.position; word = word_of fault.value }) else None
+-- the stuck pin
+abbrev pub stuck_word : Fault → StuckWord
+stuck_word fault = record { position = fault.position; word = word_of fault.value }
+
+-- the word of the fault's gate, which reads the good words but at its stuck pin
+abbrev pub IsStuckWord : Net → Fault → List ℕ → List ℕ → ℕ → Type 0
+IsStuckWord net fault words good w =
+    w ≡ node_word (node_at net fault.gate.0) (assigned_word words fault.gate.0) (stuck_reads (Some (stuck_word fault)) (map (slice_index good) (drivers_of net fault.gate.0)))
 
 -- there is a stamp and a faulty word for each number
 pub record IsSized (numbers : ℕ) (s : Spread) : Type 0 where
@@ -72,10 +77,9 @@ pub record MarksReaders (net : Net) (x : ℕ) (places old new : List ℕ) : Type
 abbrev pub IsSeenAt : Net → ℕ → ℕ → ℕ → ℕ → Type 0
 IsSeenAt net x good faulty seen = (IsObserved net x × (seen ≡ bit_xor good faulty)) ⊎ ((IsObserved net x → ⊥) × (seen ≡ 0))
 
--- in the lane the node's word is that of its function of what it reads with the fault
-abbrev pub IsFaultyAt : Net → Fault → List ℕ → (ℕ → ℕ) → ℕ → ℕ → Type 0
-IsFaultyAt net fault words f i x =
-    lane i (f x) ≡ node_value (node_at net x) (assignment words i x) (faulty_reads net fault (λ b. b) (λ y. lane i (f y)) x)
+-- in the lane the node's word is that of its function of what it reads
+abbrev pub IsRightIn : Net → List ℕ → (ℕ → ℕ) → ℕ → ℕ → Type 0
+IsRightIn net words f i x = lane i (f x) ≡ node_value (node_at net x) (assignment words i x) (map (λ y. lane i (f y)) (drivers_of net x))
 
 -- in the lane the two words of the node differ
 abbrev pub DiffersIn : List ℕ → (ℕ → ℕ) → ℕ → ℕ → Type 0
@@ -90,17 +94,18 @@ pub record AreLanes (order places good : List ℕ) (spread : Spread) : Type 0 wh
   pub sized : IsSized (length good) spread
   pub room : HasRoom spread.pending.items (length order)
 
--- the fault has spread through the places before this one, and `found` has the lanes in which an observed node differs
-pub record IsSpread (net : Net) (fault : Fault) (words order good : List ℕ) (spread : Spread) (at found : ℕ) : Type 0 where
+-- the root's word has spread through the places before this one, and `found` has the lanes in which an observed node differs
+pub record IsSpread (net : Net) (root word : ℕ) (words order good : List ℕ) (spread : Spread) (at found : ℕ) : Type 0 where
   pub stamped : IsStamped spread
   pub sized : IsSized (length good) spread
   pub room : HasRoom spread.pending.items (length order)
   pub read : (k : ℕ) → k < at → IsIdle spread.pending.items k
   pub past : (k : ℕ) → length order ≤ k → IsIdle spread.pending.items k
-  pub faulty : (k x : ℕ) → k < at → slice_get order k ≡ Some x → (i : ℕ) → i < 64 → IsFaultyAt net fault words (spread_word good spread) i x
+  pub there : spread_word good spread root ≡ word
+  pub behind : (k : ℕ) → at ≤ k → slice_get order k ≡ Some root → ⊥
+  pub right : (k x : ℕ) → k < at → slice_get order k ≡ Some x → x ≢ root → (i : ℕ) → i < 64 → IsRightIn net words (spread_word good spread) i x
   pub ahead : (k x : ℕ) → at ≤ k → slice_get order k ≡ Some x → spread_word good spread x ≡ slice_index good x
   pub others : (x : ℕ) → ((k : ℕ) → slice_get order k ≡ Some x → ⊥) → spread_word good spread x ≡ slice_index good x
-  pub gate : (k : ℕ) → at ≤ k → slice_get order k ≡ Some fault.gate.0 → IsPending spread.pending.items k
   pub quiet : (k y : ℕ) → at ≤ k → slice_get order k ≡ Some y → IsIdle spread.pending.items k → (p d : ℕ) → Reads net y p d → spread_word good spread d ≡ slice_index good d
   pub sound : (i : ℕ) → i < 64 → IsTrue (lane i found) → (x : ℕ) × (IsObserved net x × DiffersIn good (spread_word good spread) i x)
   pub complete : (k x : ℕ) → k < at → slice_get order k ≡ Some x → IsObserved net x → (i : ℕ) → i < 64 → DiffersIn good (spread_word good spread) i x → IsTrue (lane i found)

@@ -25,9 +25,9 @@ IsAmongNumbers numbers z = (k : ℕ) × (slice_get numbers k ≡ Some z)
 abbrev pub PutsBack : List Bool → Held → Held → Type 0
 PutsBack taken held more = (x : ℕ) (fact : Fact) → IsTrue (more x fact) ↔ (IsTrue (held x fact) ⊎ (IsSeen taken x × (fact ≡ Equal)))
 
--- each node of the list is on the agenda
+-- each node of the list is on the worklist
 abbrev pub AreAllOn : List NodeId → List Bool → Type 0
-AreAllOn nodes agenda = (k : ℕ) (n : NodeId) → slice_get nodes k ≡ Some n → IsSeen agenda n.0
+AreAllOn nodes worklist = (k : ℕ) (n : NodeId) → slice_get nodes k ≡ Some n → IsSeen worklist n.0
 
 -- the facts are what the faulty gate doesn't reach, and the marked nodes complete them
 pub record IsBegun (net : Net) (fault : Fault) (facts : List NodeFacts) (taken : List Bool) : Type 0 where

@@ -45,12 +45,12 @@ pub record GivingOut (net : Net) (fault : Fault) (number : ℕ) (old : List Node
   pub free : IsClashFree (held_by new)
   pub done : (z : ℕ) → z < number → IsDone net fault new (Out (node_of z))
 
--- where each node was on the agenda or settled, each still is
+-- where each node was on the worklist or settled, each still is
 abbrev pub StaysPending : Net → Fault → List NodeFacts → List Bool → List NodeFacts → List Bool → Type 0
-StaysPending net fault before agenda after agenda' = IsPending net fault before agenda → IsPending net fault after agenda'
+StaysPending net fault before worklist after worklist' = IsPending net fault before worklist → IsPending net fault after worklist'
 
 -- the tallies are those of the facts, and there is as much room as before
-pub record IsGoing (net : Net) (fault : Fault) (facts : List NodeFacts) (agenda : List Bool) (tallies : TallyState) (agenda' : List Bool) (tallies' : TallyState) : Type 0 where
+pub record IsGoing (net : Net) (fault : Fault) (facts : List NodeFacts) (worklist : List Bool) (tallies : TallyState) (worklist' : List Bool) (tallies' : TallyState) : Type 0 where
   pub tallied : AreTallied net (held_by facts) fault.position tallies'
-  pub size : length agenda' ≡ length agenda
+  pub size : length worklist' ≡ length worklist
   pub room : length tallies'.counted ≡ length tallies.counted

@@ -1,8 +1,8 @@
--- Working off the agenda.
+-- Working off the worklist.
 use Rattle.std.specs.Prelude.{Bool, List, None, Option, Some, [], length, suc, ℕ, ◌*◌, ◌++◌, ◌+◌, ◌∷◌, ◌≡◌, ◌≤◌, ◌⊎◌}
 use Rattle.gate_graph.specs.Search.{IsSeen}
 use Rattle.gate_net.specs.Net.{Net, Reads}
-use Rattle.refutation.specs.Agendas.{seen_count}
+use Rattle.refutation.specs.Worklists.{seen_count}
 use Rattle.implications.specs.Settled.{IsSettled}
 use Rattle.implications.specs.Trail.{LeadsBack}
 use Rattle.implications.specs.declared.found.Found.{Found}
@@ -15,19 +15,19 @@ use Rattle.refutation.specs.declared.reasoning.Line.{Line}
 use Rattle.rm_base.specs.declared.numbers.Fault.{Fault}
 use Rattle.rm_base.specs.declared.numbers.NodeId.{NodeId}
 
--- each node is on the agenda or settled
+-- each node is on the worklist or settled
 abbrev pub IsPending : Net → Fault → List NodeFacts → List Bool → Type 0
-IsPending net fault facts agenda = (y : ℕ) → IsSeen agenda y ⊎ IsSettled net fault (held_by facts) y
+IsPending net fault facts worklist = (y : ℕ) → IsSeen worklist y ⊎ IsSettled net fault (held_by facts) y
 
--- each node is the one, on the agenda or settled
+-- each node is the one, on the worklist or settled
 abbrev pub IsPendingBut : Net → Fault → List NodeFacts → List Bool → ℕ → Type 0
-IsPendingBut net fault facts agenda y = (z : ℕ) → (z ≡ y) ⊎ (IsSeen agenda z ⊎ IsSettled net fault (held_by facts) z)
+IsPendingBut net fault facts worklist y = (z : ℕ) → (z ≡ y) ⊎ (IsSeen worklist z ⊎ IsSettled net fault (held_by facts) z)
 
 -- how much work is left at most
 abbrev pub work : List NodeFacts → List Bool → ℕ
-work facts agenda = missing facts * suc (length agenda) + seen_count agenda
+work facts worklist = missing facts * suc (length worklist) + seen_count worklist
 
--- the node and its readers were put on the agenda
+-- the node and its readers were put on the worklist
 pub record Touches (net : Net) (before after : List Bool) (x : ℕ) : Type 0 where
   pub kept : (z : ℕ) → IsSeen before z → IsSeen after z
   pub itself : IsSeen after x
@@ -54,39 +54,39 @@ pub record Holds (old : List NodeFacts) (old_lines : List Line) (new : List Node
   pub lines : new_lines ≡ old_lines ++ f.line ∷ []
 
 -- the state of a stretch of work at the node
-pub record Settling (net : Net) (fault : Fault) (old : List NodeFacts) (old_lines : List Line) (old_trail : List (NodeId × Fact)) (old_agenda : List Bool) (new : List NodeFacts) (new_lines : List Line) (new_trail : List (NodeId × Fact)) (new_agenda : List Bool) (y : ℕ) : Type 0 where
+pub record Settling (net : Net) (fault : Fault) (old : List NodeFacts) (old_lines : List Line) (old_trail : List (NodeId × Fact)) (old_worklist : List Bool) (new : List NodeFacts) (new_lines : List Line) (new_trail : List (NodeId × Fact)) (new_worklist : List Bool) (y : ℕ) : Type 0 where
   pub works : Works net fault old old_lines new new_lines
   pub keeps : Keeps old old_trail new new_trail
-  pub pending : IsPendingBut net fault new new_agenda y
+  pub pending : IsPendingBut net fault new new_worklist y
   pub free : IsClashFree (held_by new)
-  pub less : work new new_agenda ≤ work old old_agenda
-  pub same : length new_agenda ≡ length old_agenda
+  pub less : work new new_worklist ≤ work old old_worklist
+  pub same : length new_worklist ≡ length old_worklist
 
 -- a stretch of work at the node that ended with a clash
-pub record Stops (net : Net) (fault : Fault) (old : List NodeFacts) (old_lines : List Line) (old_agenda : List Bool) (new : List NodeFacts) (new_lines : List Line) (new_agenda : List Bool) (x : ℕ) : Type 0 where
+pub record Stops (net : Net) (fault : Fault) (old : List NodeFacts) (old_lines : List Line) (old_worklist : List Bool) (new : List NodeFacts) (new_lines : List Line) (new_worklist : List Bool) (x : ℕ) : Type 0 where
   pub works : Works net fault old old_lines new new_lines
-  pub less : work new new_agenda ≤ work old old_agenda
+  pub less : work new new_worklist ≤ work old old_worklist
   pub opposed : AreOpposed (held_by new) x
 
 -- what going over the pins of the node y comes to: a clash, or the state of the work at the node
 abbrev pub Sweeps : Net → Fault → List NodeFacts → List Line → List (NodeId × Fact) → List Bool → List NodeFacts → List Line → List (NodeId × Fact) → List Bool → ℕ → Option NodeId → Type 0
-Sweeps net fault old old_lines old_trail old_agenda new new_lines new_trail new_agenda y None =
-    Settling net fault old old_lines old_trail old_agenda new new_lines new_trail new_agenda y
-Sweeps net fault old old_lines old_trail old_agenda new new_lines new_trail new_agenda y (Some x) =
-    Stops net fault old old_lines old_agenda new new_lines new_agenda x.0
+Sweeps net fault old old_lines old_trail old_worklist new new_lines new_trail new_worklist y None =
+    Settling net fault old old_lines old_trail old_worklist new new_lines new_trail new_worklist y
+Sweeps net fault old old_lines old_trail old_worklist new new_lines new_trail new_worklist y (Some x) =
+    Stops net fault old old_lines old_worklist new new_lines new_worklist x.0
 
--- what a stretch of work comes to: a clash, or each node is on the agenda or settled
+-- what a stretch of work comes to: a clash, or each node is on the worklist or settled
 abbrev pub Outcome : Net → Fault → List NodeFacts → List Bool → Option NodeId → Type 0
-Outcome net fault facts agenda None = IsPending net fault facts agenda × IsClashFree (held_by facts)
-Outcome net fault facts agenda (Some x) = AreOpposed (held_by facts) x.0
+Outcome net fault facts worklist None = IsPending net fault facts worklist × IsClashFree (held_by facts)
+Outcome net fault facts worklist (Some x) = AreOpposed (held_by facts) x.0
 
--- the state of the work on the agenda
-pub record Running (net : Net) (fault : Fault) (old : List NodeFacts) (old_lines : List Line) (old_trail : List (NodeId × Fact)) (old_agenda : List Bool) (new : List NodeFacts) (new_lines : List Line) (new_trail : List (NodeId × Fact)) (new_agenda : List Bool) : Type 0 where
+-- the state of the work on the worklist
+pub record Running (net : Net) (fault : Fault) (old : List NodeFacts) (old_lines : List Line) (old_trail : List (NodeId × Fact)) (old_worklist : List Bool) (new : List NodeFacts) (new_lines : List Line) (new_trail : List (NodeId × Fact)) (new_worklist : List Bool) : Type 0 where
   pub works : Works net fault old old_lines new new_lines
   pub keeps : Keeps old old_trail new new_trail
-  pub pending : IsPending net fault new new_agenda
+  pub pending : IsPending net fault new new_worklist
   pub free : IsClashFree (held_by new)
-  pub same : length new_agenda ≡ length old_agenda
+  pub same : length new_worklist ≡ length old_worklist
 
 -- closing comes to a clash, or the facts are closed under every line, without a clash
 abbrev pub Closes : Net → Fault → List NodeFacts → Option NodeId → Type 0

@@ -26,7 +26,7 @@ fn few_tries_by_direct_implication(rt: HostRuntime) -> Result<(), Fail> {
         end.outcome,
         outcome_spent(200, fault(51, 1, true), wire(41, false, 69))
     );
-    assert_eq!(rt; end.made, counts_made(0, 21, 150));
+    assert_eq!(rt; end.made, counts_made(0, 21, 153));
     assert_eq!(rt; end.graph.wire_count(), 89);
     assert_eq!(rt; end.graph.gate_count(), 51);
     Ok(())
@@ -36,7 +36,7 @@ fn few_tries_by_direct_implication(rt: HostRuntime) -> Result<(), Fail> {
 fn until_no_pair_gains(rt: HostRuntime) -> Result<(), Fail> {
     let end = end_at(rt.alloc(), 1, 20_000)?;
     assert_eq!(rt; end.outcome, settled_after(3168));
-    assert_eq!(rt; end.made, counts_made(2, 24, 161));
+    assert_eq!(rt; end.made, counts_made(2, 24, 164));
     assert_eq!(rt; end.graph.wire_count(), 84);
     assert_eq!(rt; end.graph.gate_count(), 47);
     Ok(())

@@ -1,5 +1,8 @@
 -- What steps do inside a trial.
 use Rattle.std.specs.Prelude.{◌≡◌, ◌<◌, ◌≤◌, ◌+◌, ◌*◌, ◌++◌, [], ℕ, List, length}
+use Rattle.rm_base.specs.Numbers.{numbers_of}
+use Rattle.rm_base.specs.declared.numbers.NodeId.{NodeId}
+use Rattle.gate_net.specs.Edits.{IsSameBut}
 use Rattle.gate_net.specs.Net.{Net, gate_count, source_count, wire_count}
 use Rattle.gate_graph.specs.Circuit.{net_of}
 use Rattle.gate_graph.specs.Holds.{HoldsOn, held, pins_held}
@@ -9,8 +12,11 @@ use Rattle.wire_edit.specs.Work.{work}
 use Rattle.recursive_learning.specs.Serving.{IsServing}
 use Rattle.journal_text.specs.declared.record.Record.{Record}
 use Rattle.journal_text.specs.Runs.{AcceptedTo}
-use Rattle.merging.specs.Inner.Changing.{TouchesOn}
 use Rattle.merging.specs.declared.space.Space.{Space}
+
+-- what differed from an earlier net among the nodes that were touched before differs from it among those touched now
+abbrev pub TouchesOn : Net → Net → List NodeId → List NodeId → Type 0
+TouchesOn net after old new = (before : Net) → IsSameBut before net (numbers_of old) → IsSameBut before after (numbers_of new)
 
 -- a trial has room for so many steps where pins and nodes together are at most 1,048,576
 abbrev pub most_steps : ℕ

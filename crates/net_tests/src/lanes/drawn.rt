@@ -7,7 +7,7 @@ ghost use Rattle.ternary_sim.specs.Sims.{Fits as FitsSim};
 use fault_sim::Lanes;
 use gate_graph::{Graph, Question};
 use rm_base::vectors::Value3;
-use rm_base::{Fault, NoMemory, NodeId, SourceNo};
+use rm_base::{Fault, NodeId, SourceNo};
 use std::alloc::Global;
 use std::test::Fail;
 use ternary_sim::Sim;
@@ -84,11 +84,11 @@ fn agree(lanes: &mut Lanes, sim: &mut Sim, graph: &Graph, fault: &Fault, first: 
 }
 
 // Whether they agree on every fifth fault of a net from that one on.
-fn all_agree(alloc: Global, graph: &Graph, first: u32) -> Result<bool, NoMemory>
-    requires { first < 5 }
+fn all_agree(lanes: &mut Lanes, sim: &mut Sim, graph: &Graph, first: u32) -> bool
+    requires lanes { Fits lanes.old (net_of graph.now) }
+    requires sim { FitsSim sim.old (net_of graph.now) }
+    requires first { first < 5 }
 {
-    let mut lanes = Lanes::new(alloc, graph)?;
-    let mut sim = Sim::new(alloc, graph)?;
     for fifth in 0..6 * GATES / 5 {
         let number = 5 * fifth + first;
         let fault = Fault {
@@ -96,19 +96,25 @@ fn all_agree(alloc: Global, graph: &Graph, first: u32) -> Result<bool, NoMemory>
             position: number % 3,
             value: number % 6 < 3,
         };
-        if !agree(&mut lanes, &mut sim, graph, &fault, fifth % 8) {
-            return Ok(false);
+        if !agree(lanes, sim, graph, &fault, fifth % 8) {
+            return false;
         }
     }
-    Ok(true)
+    true
+}
+
+// Whether those of a drawn net agree.
+fn is_right(alloc: Global, seed: u64) -> Result<bool, Fail> {
+    let graph = drawn_net(alloc, 6, seed)?;
+    let mut lanes = Lanes::new(alloc, &graph)?;
+    let mut sim = Sim::new(alloc, &graph)?;
+    Ok(all_agree(&mut lanes, &mut sim, &graph, (seed % 5) as u32))
 }
 
 #[test]
 fn drawn_nets(rt: HostRuntime) -> Result<(), Fail> {
     for seed in 1..51u64 {
-        let graph = drawn_net(rt.alloc(), 6, seed)?;
-        let right = all_agree(rt.alloc(), &graph, (seed % 5) as u32)?;
-        assert!(rt; right, "at seed {seed}");
+        assert!(rt; is_right(rt.alloc(), seed)?, "at seed {seed}");
     }
     Ok(())
 }

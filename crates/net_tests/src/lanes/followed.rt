@@ -88,6 +88,22 @@ fn fault_of(number: u32) -> Fault
     }
 }
 
+// Whether both find the same lanes for every fault of the first numbers.
+fn same_at_all(one: &mut Lanes, other: &mut Lanes, graph: &Graph) -> bool
+    requires one { Fits one.old (net_of graph.now) }
+    requires good { IsSimulated one.old (net_of graph.now) }
+    requires other { Fits other.old (net_of graph.now) }
+    requires right { IsSimulated other.old (net_of graph.now) }
+    ensures one { one.new ≡ one.old }
+{
+    for number in 0..6 * (GATES + 10) {
+        if !same_lanes(one, other, graph, &fault_of(number)) {
+            return false;
+        }
+    }
+    true
+}
+
 // Whether the lanes agree with new ones, node by node and fault by fault.
 fn lanes_agree(alloc: Global, graph: &Graph, lanes: &mut Lanes) -> Result<bool, NoMemory>
     requires fits { Fits lanes.old (net_of graph.now) }
@@ -102,12 +118,7 @@ fn lanes_agree(alloc: Global, graph: &Graph, lanes: &mut Lanes) -> Result<bool, 
     if !same_words(lanes, &fresh, graph.node_bound()) {
         return Ok(false);
     }
-    for number in 0..6 * (GATES + 10) {
-        if !same_lanes(lanes, &mut fresh, graph, &fault_of(number)) {
-            return Ok(false);
-        }
-    }
-    Ok(true)
+    Ok(same_at_all(lanes, &mut fresh, graph))
 }
 
 // Whether the blocks agree with new ones, fault by fault.
@@ -232,6 +243,36 @@ fn there_and_back(
     agree(alloc, graph, lanes, blocks)
 }
 
+// Makes the edit, and undoes it where that is asked; whether both agreed with new ones.
+fn make(
+    alloc: Global,
+    graph: &mut Graph,
+    lanes: &mut Lanes,
+    blocks: &mut Blocks,
+    undos: &mut Undos,
+    edit: &Edit,
+    back: bool,
+) -> Result<bool, NoMemory>
+    requires can { CanEdit graph.old edit.now }
+    requires none { undos.old.entries ≡ [] }
+    requires back { CanGoBack (wiring graph.old) [] }
+    requires fits { Fits lanes.old (net_of graph.old) }
+    requires simulated { IsSimulated lanes.old (net_of graph.old) }
+    requires blocks { AreSimulated blocks.old (net_of graph.old) }
+    ensures fits { IfOk result (λ b. b ≡ true → Fits lanes.new (net_of graph.new)) }
+    ensures simulated { IfOk result (λ b. b ≡ true → IsSimulated lanes.new (net_of graph.new)) }
+    ensures blocks { IfOk result (λ b. b ≡ true → AreSimulated blocks.new (net_of graph.new)) }
+    ensures pins { pins_taken graph.new ≤ pins_taken graph.old + 1 }
+{
+    reserve_undos(graph, undos, edit)?;
+    let changed = changed_by(alloc, graph, edit)?;
+    let nodes = changed.as_slice();
+    if back {
+        return there_and_back(alloc, graph, lanes, blocks, undos, edit, nodes);
+    }
+    there(alloc, graph, lanes, blocks, undos, edit, nodes)
+}
+
 // Makes the edit, where it may be made, and undoes it where that is asked; whether both agreed with new ones.
 fn step(
     alloc: Global,
@@ -259,28 +300,7 @@ fn step(
     }
     graph.leads_back();
     let mut undos = Undos::new(alloc);
-    reserve_undos(graph, &mut undos, edit)?;
-    let changed = changed_by(alloc, graph, edit)?;
-    if back {
-        return there_and_back(
-            alloc,
-            graph,
-            lanes,
-            blocks,
-            &mut undos,
-            edit,
-            changed.as_slice(),
-        );
-    }
-    there(
-        alloc,
-        graph,
-        lanes,
-        blocks,
-        &mut undos,
-        edit,
-        changed.as_slice(),
-    )
+    make(alloc, graph, lanes, blocks, &mut undos, edit, back)
 }
 
 // A drawn edit of the first numbers.
@@ -337,12 +357,15 @@ fn follows(alloc: Global, graph: &mut Graph, seed: u64) -> Result<bool, NoMemory
     Ok(true)
 }
 
+fn is_right(alloc: Global, seed: u64) -> Result<bool, Fail> {
+    let mut graph = drawn_net(alloc, 6, seed)?;
+    Ok(follows(alloc, &mut graph, seed)?)
+}
+
 #[test]
 fn edited_nets(rt: HostRuntime) -> Result<(), Fail> {
     for seed in 1..51u64 {
-        let mut graph = drawn_net(rt.alloc(), 6, seed)?;
-        let right = follows(rt.alloc(), &mut graph, seed)?;
-        assert!(rt; right, "at seed {seed}");
+        assert!(rt; is_right(rt.alloc(), seed)?, "at seed {seed}");
     }
     Ok(())
 }

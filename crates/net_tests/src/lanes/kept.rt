@@ -80,11 +80,11 @@ fn agree(blocks: &mut Blocks, sim: &mut Sim, graph: &Graph, fault: &Fault) -> bo
 }
 
 // Whether they agree on every seventh fault of a net from that one on.
-fn all_agree(alloc: Global, graph: &Graph, first: u32) -> Result<bool, Fail>
-    requires { first < 7 }
+fn all_agree(blocks: &mut Blocks, sim: &mut Sim, graph: &Graph, first: u32) -> bool
+    requires simulated { AreSimulated blocks.old (net_of graph.now) }
+    requires sim { FitsSim sim.old (net_of graph.now) }
+    requires first { first < 7 }
 {
-    let mut blocks = all_kept(alloc, graph)?;
-    let mut sim = Sim::new(alloc, graph)?;
     for seventh in 0..6 * GATES / 7 {
         let number = 7 * seventh + first;
         let fault = Fault {
@@ -92,19 +92,25 @@ fn all_agree(alloc: Global, graph: &Graph, first: u32) -> Result<bool, Fail>
             position: number % 3,
             value: number % 6 < 3,
         };
-        if !agree(&mut blocks, &mut sim, graph, &fault) {
-            return Ok(false);
+        if !agree(blocks, sim, graph, &fault) {
+            return false;
         }
     }
-    Ok(true)
+    true
+}
+
+// Whether those of a drawn net agree.
+fn is_right(alloc: Global, seed: u64) -> Result<bool, Fail> {
+    let graph = drawn_net(alloc, 8, seed)?;
+    let mut blocks = all_kept(alloc, &graph)?;
+    let mut sim = Sim::new(alloc, &graph)?;
+    Ok(all_agree(&mut blocks, &mut sim, &graph, (seed % 7) as u32))
 }
 
 #[test]
 fn first_of_four_blocks(rt: HostRuntime) -> Result<(), Fail> {
     for seed in 1..21u64 {
-        let graph = drawn_net(rt.alloc(), 8, seed)?;
-        let right = all_agree(rt.alloc(), &graph, (seed % 7) as u32)?;
-        assert!(rt; right, "at seed {seed}");
+        assert!(rt; is_right(rt.alloc(), seed)?, "at seed {seed}");
     }
     Ok(())
 }

@@ -11,10 +11,10 @@ use Rattle.blif_format.specs.declared.refusal.Quantity.TheVariants.{Pins}
 use Rattle.cover_decompose.specs.Count.{decomposed}
 use Rattle.journal_text.specs.declared.append.Stop.{Stop}
 use Rattle.journal_text.specs.declared.append.Stop.TheVariants as stop
-use Rattle.optimisation.specs.declared.halt.Halt.{Halt}
-use Rattle.optimisation.specs.declared.halt.Halt.TheVariants as halt
-use Rattle.word_reading.specs.declared.command.WordFault.{WordFault}
-use Rattle.word_reading.specs.declared.command.WordFault.TheVariants as word
+use Rattle.optimisation.specs.declared.run_error.RunError.{RunError}
+use Rattle.optimisation.specs.declared.run_error.RunError.TheVariants as run_error
+use Rattle.word_reading.specs.declared.command.UsageError.{UsageError}
+use Rattle.word_reading.specs.declared.command.UsageError.TheVariants as word
 use Rattle.rambo_cli.specs.Flat.{ExceedsFlat, HasFlatFault}
 use Rattle.rambo_cli.specs.declared.input_model.FlatLimits.{FlatLimits}
 use Rattle.rambo_cli.specs.Written.{HasFault, ExceedsBy, most_pins}
@@ -33,16 +33,16 @@ read_problem (ReadFault kind place) = Text kind place
 read_problem (ReadLimit quantity count place) = Limit quantity count
 read_problem ReadNoMemory = Memory
 
-abbrev pub halt_problem : Halt → Problem
-halt_problem (halt.Limit pins) = Limit Pins pins
-halt_problem halt.Failed = Fault
-halt_problem halt.NoMemory = Memory
+abbrev pub run_error_problem : RunError → Problem
+run_error_problem (run_error.Limit pins) = Limit Pins pins
+run_error_problem run_error.Failed = Fault
+run_error_problem run_error.NoMemory = Memory
 
 abbrev pub stop_problem : Stop → Problem
 stop_problem stop.Failed = Fault
 stop_problem stop.NoMemory = Memory
 
-abbrev pub word_problem : WordFault → Problem
+abbrev pub word_problem : UsageError → Problem
 word_problem word.Refused = Words
 word_problem word.NoMemory = Memory
 

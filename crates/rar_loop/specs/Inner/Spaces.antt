@@ -7,8 +7,8 @@ use Rattle.fault_sim.specs.Following.{DiffersAmong}
 use Rattle.gate_graph.specs.Circuit.{net_of}
 use Rattle.wire_edit.specs.Order.{IsTidy}
 use Rattle.recursive_learning.specs.Serving.{IsServing}
-use Rattle.rar_loop.specs.declared.changes.Changed.{Changed}
-use Rattle.rar_loop.specs.Inner.Changing.{AreNoted}
+use Rattle.changed_nodes.specs.declared.changes.Changed.{Changed}
+use Rattle.changed_nodes.specs.Changing.{AreNoted}
 use Rattle.rar_loop.specs.Inner.Kept.{AreFor}
 use Rattle.rar_loop.specs.Trying.{IsLent}
 use Rattle.rar_loop.specs.declared.workspace.Workspace.{Workspace}

@@ -21,8 +21,8 @@ use Rattle.journal_text.specs.Runs.{AcceptedTo, steps_of}
 use Rattle.gate_graph.specs.Circuit.{Circuit, net_of}
 use Rattle.wire_edit.specs.Refusals.{live_count}
 use Rattle.wire_edit.specs.Tried.{Tried}
-use Rattle.rar_loop.specs.declared.trying.Attempt.{Attempt}
-use Rattle.rar_loop.specs.declared.trying.Attempt.TheVariants.{Gained, Failed}
+use Rattle.rar_loop.specs.declared.trying.TryOutcome.{TryOutcome}
+use Rattle.rar_loop.specs.declared.trying.TryOutcome.TheVariants.{Gained, Failed}
 use Rattle.rar_loop.specs.Sizes.{IsSame, IsWithin, most_steps}
 use Rattle.refutation.specs.Detected.{HasOpenSet}
 use Rattle.rar_loop.specs.Swept.{IsSwept}
@@ -108,6 +108,6 @@ pub record IsAhead (before : Tried) (pair : Pair) (depth : ℕ) (records : List 
   pub lent : IsLent now
 
 -- fewer wires; or all as it was, and the pair doesn't gain on the net
-abbrev pub IsAttempt : Tried → Pair → ℕ → Tried → Attempt → Type 0
-IsAttempt before pair depth now (Gained records) = IsAhead before pair depth records.items now
-IsAttempt before pair depth now Failed = IsBack before now × (Gains (net_of before.graph) pair → ⊥)
+abbrev pub IsTryOutcome : Tried → Pair → ℕ → Tried → TryOutcome → Type 0
+IsTryOutcome before pair depth now (Gained records) = IsAhead before pair depth records.items now
+IsTryOutcome before pair depth now Failed = IsBack before now × (Gains (net_of before.graph) pair → ⊥)

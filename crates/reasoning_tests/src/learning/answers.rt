@@ -101,8 +101,8 @@ const LEARNS: Wiring<'static> = Wiring {
 };
 
 // (a + b) ((e a + e b)' + P) (e p + e q) f, where P is (h i + h j) (h' k + h' l). If f stuck at 1 is detected, all three
-// are 1. At first neither a + b nor the second one teaches anything: e isn't known, so neither a nor b leads to e a + e b.
-// The third one, which comes last, teaches e. Only then do both a and b lead to e a + e b, and so to P, which clashes at
+// are 1. At first neither a + b nor the second one implies anything: e isn't known, so neither a nor b leads to e a + e b.
+// The third one, which comes last, implies e. Only then do both a and b lead to e a + e b, and so to P, which clashes at
 // depth 1: the two sums have to be looked at again for a fact that is on none of their drivers.
 const FAR: Wiring<'static> = Wiring {
     sources: 11,

@@ -1,4 +1,4 @@
--- The justifications of a gate, and that each of them teaches nothing.
+-- The justifications of a gate, and that each of them implies nothing.
 use Rattle.std.specs.Prelude.{Bool, List, None, Option, Some, length, slice_get, ℕ, ◌≡◌, ◌≤◌}
 use Rattle.gate_net.specs.Net.{Net, Reads}
 use Rattle.gate_net.specs.Values.{IsJunction}

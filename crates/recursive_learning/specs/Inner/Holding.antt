@@ -34,7 +34,7 @@ pub record NamesAll (w : Watch) (added : List (NodeId × Fact)) (nodes : List No
   pub first : StillNames w.first.items nodes
   pub later : NamesAdded added nodes
 
--- each node of the list is on the agenda
+-- each node of the list is on the worklist
 abbrev pub ListsNodes : List NodeId → List Bool → Type 0
 ListsNodes nodes listed = (k : ℕ) (n : NodeId) → slice_get nodes k ≡ Some n → n.0 < length listed → IsSeen listed n.0
 

@@ -2,14 +2,14 @@
 use Rattle.std.specs.Prelude.{Bool, List, [], false, length, map, replicate, slice_get, Some, true, ℕ, ◌<◌, ◌≡◌, ◌⊎◌, suc, ◌*◌, ◌+◌}
 use Rattle.gate_graph.specs.Search.{IsSeen}
 use Rattle.gate_net.specs.Net.{IsLive, Net, Reads}
-use Rattle.refutation.specs.Agendas.{seen_count}
+use Rattle.refutation.specs.Worklists.{seen_count}
 use Rattle.implications.specs.Settled.{AgreeAt}
 use Rattle.recursive_learning.specs.Inner.Gates.{HasTaught}
 use Rattle.recursive_learning.specs.Least.{IsLeastAt}
-use Rattle.recursive_learning.specs.Inner.Lessons.{AreCommon}
+use Rattle.recursive_learning.specs.Inner.JustifiedValues.{AreCommon}
 use Rattle.recursive_learning.specs.Resting.{IsLonger, IsWatched}
 use Rattle.recursive_learning.specs.Inner.Working.{AreSettled}
-use Rattle.recursive_learning.specs.declared.lessons.Common.{Common}
+use Rattle.recursive_learning.specs.declared.justified_values.Common.{Common}
 use Rattle.recursive_learning.specs.declared.resting.Rest.{Rest}
 use Rattle.recursive_learning.specs.declared.watch.Watch.{Watch}
 use Rattle.refutation.specs.Closing.{IsWithin}
@@ -96,7 +96,7 @@ pub record HasRegion (net : Net) (fault : Fault) (held : Held) (c : Bool) (ds : 
   pub common : AreCommon net fault 0 held c ds count true []
   pub covered : (k d : ℕ) → k < count → slice_get ds k ≡ Some d → IsCovered net fault held c d entries y
 
--- where a gate of unknown drivers teaches nothing at depth 0, and something is known of the others, its region is noted
+-- where a gate of unknown drivers implies nothing at depth 0, and something is known of the others, its region is noted
 abbrev pub NotesRegion : Net → Fault → Held → Bool → List NodeId → ℕ → Common → Bool → List Rest → ℕ → Type 0
 NotesRegion net fault held c drivers depth met all entries y =
     met.found ≡ true → met.goods.items ≡ [] → depth ≡ 0 → all ≡ false → HasRegion net fault held c (map (λ (n : NodeId). n.0) drivers) entries y

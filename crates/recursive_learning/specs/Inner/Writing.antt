@@ -36,13 +36,13 @@ pub record OppositeClashes (net : Net) (fault : Fault) (depth : ℕ) (now : Held
   pub cases : HasCases net now c ds
   pub clash : (k d : ℕ) → slice_get ds k ≡ Some d → (more : Held) → IsWithin now more → IsTrue (more d (Good c)) → IsTrue (more x (Good (not b))) → LeadsToClash net fault depth more
 
--- the branch has ended; or the gate teaches nothing; or the branch has more facts
+-- the branch has ended; or the gate implies nothing; or the branch has more facts
 abbrev pub IsWritten : Net → Fault → ℕ → ℕ → List NodeFacts → List Item → Bool → List NodeFacts → List Item → Type 0
 IsWritten net fault depth y old before true new after = Ends net fault (held_by old) before after
 IsWritten net fault depth y old before false new after =
     ((new ≡ old) × ((after ≡ before) × HasTaught net fault depth (held_by old) y))
     ⊎ ((Leads net fault (held_by old) before (held_by new) after × AreSettled net fault (held_by new)) × (missing new < missing old))
 
--- none of the gates teaches anything; or there are more facts
+-- none of the gates implies anything; or there are more facts
 abbrev pub IsPassed : Net → Fault → ℕ → (ℕ → Type 0) → List NodeFacts → List NodeFacts → Type 0
 IsPassed net fault depth gates start now = ((now ≡ start) × ((y : ℕ) → gates y → HasTaught net fault depth (held_by start) y)) ⊎ (missing now < missing start)

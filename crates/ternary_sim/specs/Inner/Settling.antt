@@ -3,7 +3,7 @@ use Rattle.std.specs.Prelude.{Bool, List, None, Option, Some, false, if◌then�
 use Rattle.gate_graph.specs.Search.{IsSeen}
 use Rattle.gate_net.specs.Net.{IsKind, IsLive, Net, Reads}
 use Rattle.gate_net.specs.declared.Kind.TheVariants.{Source}
-use Rattle.gate_looks.specs.Agendas.{seen_count}
+use Rattle.local_evaluation.specs.Worklists.{seen_count}
 use Rattle.rm_base.specs.declared.numbers.Fault.{Fault}
 use Rattle.ternary_sim.specs.Marks.{IsReadAt, good_at, mark_at, marking}
 use Rattle.ternary_sim.specs.Regions.{IsTouched}
@@ -28,11 +28,11 @@ IsLow net fault region marks = (x : ℕ) → IsSeen region x → (r : NodeMarks)
 
 -- each node of the region is to be looked at, or its marks are what its own conditions say
 abbrev pub IsPending : Net → Fault → List Bool → List NodeMarks → List Bool → Type 0
-IsPending net fault region marks agenda = (x : ℕ) → IsSeen region x → IsSeen agenda x ⊎ IsRead net fault marks x (mark_at marks x)
+IsPending net fault region marks worklist = (x : ℕ) → IsSeen region x → IsSeen worklist x ⊎ IsRead net fault marks x (mark_at marks x)
 
 -- the same, or it is the one
 abbrev pub IsPendingBut : Net → Fault → List Bool → List NodeMarks → List Bool → ℕ → Type 0
-IsPendingBut net fault region marks agenda y = (x : ℕ) → IsSeen region x → (x ≡ y) ⊎ (IsSeen agenda x ⊎ IsRead net fault marks x (mark_at marks x))
+IsPendingBut net fault region marks worklist y = (x : ℕ) → IsSeen region x → (x ≡ y) ⊎ (IsSeen worklist x ⊎ IsRead net fault marks x (mark_at marks x))
 
 -- the marks of each node of the region are what its own conditions say
 abbrev pub AreReadWithin : Net → Fault → List Bool → List NodeMarks → Type 0
@@ -44,7 +44,7 @@ SameOutside region old new = (x : ℕ) → (IsSeen region x → ⊥) → mark_at
 
 -- what is to be looked at is live and in the region
 abbrev pub AreLive : Net → List Bool → List Bool → Type 0
-AreLive net region agenda = (x : ℕ) → IsSeen agenda x → IsLive net x × IsSeen region x
+AreLive net region worklist = (x : ℕ) → IsSeen worklist x → IsLive net x × IsSeen region x
 
 abbrev pub lacking : Option Bool → ℕ
 lacking None = 1
@@ -60,13 +60,13 @@ lack (m ∷ marks) = lack_of m + lack marks
 
 -- how much work is left at most
 abbrev pub work : List NodeMarks → List Bool → ℕ
-work marks agenda = lack marks * suc (length agenda) + seen_count agenda
+work marks worklist = lack marks * suc (length worklist) + seen_count worklist
 
 -- the sources have what they had
 abbrev pub SameSources : Net → List NodeMarks → List NodeMarks → Type 0
 SameSources net old new = (z : ℕ) → IsKind net z Source → good_at new z ≡ good_at old z
 
--- the readers of the node that are in the region were put on the agenda
+-- the readers of the node that are in the region were put on the worklist
 pub record ListsReaders (net : Net) (region old new : List Bool) (x : ℕ) : Type 0 where
   pub kept : (z : ℕ) → IsSeen old z → IsSeen new z
   pub readers : (z p : ℕ) → Reads net z p x → IsSeen region z → IsSeen new z
@@ -78,10 +78,10 @@ pub record ListsReaders (net : Net) (region old new : List Bool) (x : ℕ) : Typ
 abbrev pub plain_marks : Option Bool → NodeMarks
 plain_marks good = record { good = good; faulty = good; equal = true }
 
--- between its calls a tracker has a trail that leads back to the marks where no source is known, and no node on its agenda
-pub record IsAtRest (base : List (Option Bool)) (marks : List NodeMarks) (entries : List Saved) (agenda : List Bool) : Type 0 where
+-- between its calls a tracker has a trail that leads back to the marks where no source is known, and no node on its worklist
+pub record IsAtRest (base : List (Option Bool)) (marks : List NodeMarks) (entries : List Saved) (worklist : List Bool) : Type 0 where
   pub first : first_marks marks entries ≡ map plain_marks base
-  pub none : agenda ≡ replicate (length marks) false
+  pub none : worklist ≡ replicate (length marks) false
   pub size : length base ≡ length marks
   pub inside : AreInside (length marks) entries
 
@@ -90,11 +90,11 @@ touched_marks good = record { good = good; faulty = None; equal = false }
 
 -- the node has its first marks, and is to be looked at where the fault may change it
 abbrev pub Begins : Net → ℕ → List (Option Bool) → List NodeMarks → List Bool → ℕ → Type 0
-Begins net gate base marks agenda x =
-    ((mark_at marks x ≡ touched_marks (base_at base x)) × IsSeen agenda x × IsTouched net gate x)
+Begins net gate base marks worklist x =
+    ((mark_at marks x ≡ touched_marks (base_at base x)) × IsSeen worklist x × IsTouched net gate x)
     ⊎ ((mark_at marks x ≡ plain_marks (base_at base x)) × (IsTouched net gate x → ⊥))
 
--- the numbers on the agenda have their first marks with the fault, and all others those without it
-pub record HasBegun (base : List (Option Bool)) (marks : List NodeMarks) (agenda : List Bool) : Type 0 where
-  pub touched : (x : ℕ) → IsSeen agenda x → mark_at marks x ≡ touched_marks (base_at base x)
-  pub plain : (x : ℕ) → (IsSeen agenda x → ⊥) → mark_at marks x ≡ plain_marks (base_at base x)
+-- the numbers on the worklist have their first marks with the fault, and all others those without it
+pub record HasBegun (base : List (Option Bool)) (marks : List NodeMarks) (worklist : List Bool) : Type 0 where
+  pub touched : (x : ℕ) → IsSeen worklist x → mark_at marks x ≡ touched_marks (base_at base x)
+  pub plain : (x : ℕ) → (IsSeen worklist x → ⊥) → mark_at marks x ≡ plain_marks (base_at base x)

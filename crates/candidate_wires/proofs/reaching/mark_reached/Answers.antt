@@ -7,10 +7,10 @@ use Rattle.refutation.specs.Reaching.{MarksReaders}
 
 pub loop-node-init : goal.loop-node-init
 loop-node-init c =
-    let marked : MarksReaders (net_of c.args.graph.now) c.args.gate.0 (replicate (length c.args.reached.now) false) c.mark_readers.new.reached (replicate (length c.args.agenda.now) false) c.mark_readers.new.agenda =
+    let marked : MarksReaders (net_of c.args.graph.now) c.args.gate.0 (replicate (length c.args.reached.now) false) c.mark_readers.new.reached (replicate (length c.args.worklist.now) false) c.mark_readers.new.worklist =
     rw (← c.clear.ensures, ← c.requires.none) c.mark_readers.ensures.marked in
     record {
-      search = search_first (net_of c.args.graph.now) c.args.gate.0 (length c.args.reached.now) (length c.args.agenda.now) c.mark_readers.new.reached c.mark_readers.new.agenda marked;
+      search = search_first (net_of c.args.graph.now) c.args.gate.0 (length c.args.reached.now) (length c.args.worklist.now) c.mark_readers.new.reached c.mark_readers.new.worklist marked;
       size = refl;
       room = refl;
     }
@@ -24,33 +24,33 @@ mark_readers-requires-in-Some-clause-marks c =
     let cleared : length c.clear.new.self ≡ length c.args.reached.now = ap (λ xs. length xs) c.clear.ensures ∙ length-replicate (length c.args.reached.now) false in
     omega (arith, c.requires.marks, c.loop-node.invariant.size, c.mark_readers.ensures.size)
 
-pub mark_readers-requires-in-Some-clause-agenda : goal.mark_readers-requires-in-Some-clause-agenda
-mark_readers-requires-in-Some-clause-agenda c =
-    let taken : length c.take.new.self ≡ length c.loop-node.agenda = ap (λ xs. length xs) c.in-Some.ensures.1 ∙ length-set c.loop-node.agenda c.in-Some.node.0 false in
-    omega (arith, c.requires.agenda, c.loop-node.invariant.room, c.mark_readers.ensures.agenda)
+pub mark_readers-requires-in-Some-clause-worklist : goal.mark_readers-requires-in-Some-clause-worklist
+mark_readers-requires-in-Some-clause-worklist c =
+    let taken : length c.take.new.self ≡ length c.loop-node.worklist = ap (λ xs. length xs) c.in-Some.ensures.1 ∙ length-set c.loop-node.worklist c.in-Some.node.0 false in
+    omega (arith, c.requires.worklist, c.loop-node.invariant.room, c.mark_readers.ensures.worklist)
 
 pub loop-node-smaller : goal.loop-node-smaller
 loop-node-smaller c =
-    search_less c.loop-node.reached c.mark_readers-in-Some.new.reached c.loop-node.agenda c.take.new.self c.mark_readers-in-Some.new.agenda c.in-Some.node.0 c.in-Some.ensures c.mark_readers-in-Some.ensures.marked.less
+    search_less c.loop-node.reached c.mark_readers-in-Some.new.reached c.loop-node.worklist c.take.new.self c.mark_readers-in-Some.new.worklist c.in-Some.node.0 c.in-Some.ensures c.mark_readers-in-Some.ensures.marked.less
 
 pub loop-node-preserved : goal.loop-node-preserved
 loop-node-preserved c =
-    let taken : length c.take.new.self ≡ length c.loop-node.agenda = ap (λ xs. length xs) c.in-Some.ensures.1 ∙ length-set c.loop-node.agenda c.in-Some.node.0 false in
+    let taken : length c.take.new.self ≡ length c.loop-node.worklist = ap (λ xs. length xs) c.in-Some.ensures.1 ∙ length-set c.loop-node.worklist c.in-Some.node.0 false in
     record {
-      search = search_more (net_of c.args.graph.now) c.args.gate.0 c.loop-node.reached c.mark_readers-in-Some.new.reached c.loop-node.agenda c.mark_readers-in-Some.new.agenda c.in-Some.node.0 c.loop-node.invariant.search c.in-Some.ensures.0
+      search = search_more (net_of c.args.graph.now) c.args.gate.0 c.loop-node.reached c.mark_readers-in-Some.new.reached c.loop-node.worklist c.mark_readers-in-Some.new.worklist c.in-Some.node.0 c.loop-node.invariant.search c.in-Some.ensures.0
           (rw (← c.in-Some.ensures.1) c.mark_readers-in-Some.ensures.marked);
       size = c.mark_readers-in-Some.ensures.size ∙ c.loop-node.invariant.size;
-      room = c.mark_readers-in-Some.ensures.agenda ∙ taken ∙ c.loop-node.invariant.room;
+      room = c.mark_readers-in-Some.ensures.worklist ∙ taken ∙ c.loop-node.invariant.room;
     }
 
 pub returns-clause-marked : goal.returns-clause-marked
-returns-clause-marked c = search_ends (net_of c.args.graph.now) c.args.gate.0 c.loop-node.reached c.loop-node.agenda c.loop-node.invariant.search c.in_default.ensures.1
+returns-clause-marked c = search_ends (net_of c.args.graph.now) c.args.gate.0 c.loop-node.reached c.loop-node.worklist c.loop-node.invariant.search c.in_default.ensures.1
 
 pub returns-clause-size : goal.returns-clause-size
 returns-clause-size c =
     let cleared : length c.clear.new.self ≡ length c.args.reached.now = ap (λ xs. length xs) c.clear.ensures ∙ length-replicate (length c.args.reached.now) false in
     c.loop-node.invariant.size ∙ c.mark_readers.ensures.size ∙ cleared
 
-pub returns-clause-agenda : goal.returns-clause-agenda
-returns-clause-agenda c =
-    c.in_default.ensures.0 ∙ none_marked c.loop-node.agenda c.in_default.ensures.1 ∙ ap (λ n. replicate n false) (c.loop-node.invariant.room ∙ c.mark_readers.ensures.agenda) ∙ sym c.requires.none
+pub returns-clause-worklist : goal.returns-clause-worklist
+returns-clause-worklist c =
+    c.in_default.ensures.0 ∙ none_marked c.loop-node.worklist c.in_default.ensures.1 ∙ ap (λ n. replicate n false) (c.loop-node.invariant.room ∙ c.mark_readers.ensures.worklist) ∙ sym c.requires.none

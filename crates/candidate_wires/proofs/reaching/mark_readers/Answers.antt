@@ -18,7 +18,7 @@ pub add-requires : goal.add-requires
 add-requires c =
     let below : c.in-Some.reader.0 < length (net_of c.args.graph.now).nodes =
     next_below c.args.graph.now c.args.node.0 c.readers_listed.ensures c.into_iter-reader-iterator.result (c.into_iter-reader-iterator.ensures.into_iter_gives ∙ c.readers_of-reader-items.ensures) c.loop-reader.yielded c.in-Some.reader _ _ c.loop-reader.invariant.all c.in-Some.ensures.steps in
-    omega (arith, c.requires.agenda, c.loop-reader.invariant.room)
+    omega (arith, c.requires.worklist, c.loop-reader.invariant.room)
 
 pub loop-reader-preserved-then-not-has : goal.loop-reader-preserved-then-not-has
 loop-reader-preserved-then-not-has c =
@@ -29,16 +29,16 @@ loop-reader-preserved-then-not-has c =
     record {
       all = yielded_more (λ (d : NodeId). d.0) c.into_iter-reader-iterator.result c.loop-reader.yielded c.in-Some.reader _ _ c.loop-reader.invariant.all c.in-Some.ensures.steps;
       marks = rw (c.set.ensures, c.add.ensures)
-          (marks_new (net_of c.args.graph.now) c.args.node.0 c.args.reached.now c.loop-reader.reached c.args.agenda.now c.loop-reader.agenda c.in-Some.reader.0 reads.0 c.loop-reader.invariant.marks
+          (marks_new (net_of c.args.graph.now) c.args.node.0 c.args.reached.now c.loop-reader.reached c.args.worklist.now c.loop-reader.worklist c.in-Some.reader.0 reads.0 c.loop-reader.invariant.marks
           (not_seen c.loop-reader.reached c.in-Some.reader.0 within (λ seen. has_not c.has.result c.if-not-has.true (c.has.ensures.1 seen)))
-          (omega (arith, c.requires.agenda, c.loop-reader.invariant.room))
+          (omega (arith, c.requires.worklist, c.loop-reader.invariant.room))
           reads.1);
       done = λ k place e. elim (last_cases c.loop-reader.yielded c.in-Some.reader k place e) [
         | inl before ↦ rw c.set.ensures (seen_kept c.loop-reader.reached c.in-Some.reader.0 place.0 (c.loop-reader.invariant.done k place before))
         | inr is ↦ rw (c.set.ensures, ap (λ (d : NodeId). d.0) is) (seen_new c.loop-reader.reached c.in-Some.reader.0 within)
       ];
       size = ap (λ bs. length bs) c.set.ensures ∙ length-set c.loop-reader.reached c.in-Some.reader.0 true ∙ c.loop-reader.invariant.size;
-      room = rw c.add.ensures (length-set c.loop-reader.agenda c.in-Some.reader.0 true) ∙ c.loop-reader.invariant.room;
+      room = rw c.add.ensures (length-set c.loop-reader.worklist c.in-Some.reader.0 true) ∙ c.loop-reader.invariant.room;
     }
 
 pub loop-reader-preserved : goal.loop-reader-preserved
@@ -59,6 +59,6 @@ loop-reader-preserved c =
 
 pub returns-clause-marked : goal.returns-clause-marked
 returns-clause-marked c =
-    marks_all (net_of c.args.graph.now) c.args.node.0 c.args.reached.now c.loop-reader.reached c.args.agenda.now c.loop-reader.agenda c.loop-reader.invariant.marks (λ z p reads.
+    marks_all (net_of c.args.graph.now) c.args.node.0 c.args.reached.now c.loop-reader.reached c.args.worklist.now c.loop-reader.worklist c.loop-reader.invariant.marks (λ z p reads.
     let came = all_came c.args.graph.now c.args.node.0 c.readers_listed.ensures c.into_iter-reader-iterator.result (c.into_iter-reader-iterator.ensures.into_iter_gives ∙ c.readers_of-reader-items.ensures) c.loop-reader.yielded _ c.loop-reader.invariant.all c.in-None.ensures.steps.0 z p reads in
     subst (IsSeen c.loop-reader.reached) came.1.1.1 (c.loop-reader.invariant.done came.0 came.1.0 came.1.1.0))

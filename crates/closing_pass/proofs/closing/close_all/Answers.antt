@@ -9,8 +9,8 @@ use Rattle.closing_pass.proofs.Sizes.{went_then}
 use Rattle.closing_pass.proofs.closing.close_all.Goals as goal
 use Rattle.rm_base.proofs.Public.{on_err}
 
-pub pass-requires-clause-long : goal.pass-requires-clause-long
-pass-requires-clause-long g c κs within = subst (λ (v : Circuit). AreLong c.loop-kept.kept.items (source_count (net_of v))) (sym c.graph.ensures) c.loop-kept.invariant.long
+pub pass_twice-requires-clause-long : goal.pass_twice-requires-clause-long
+pass_twice-requires-clause-long g c κs within = subst (λ (v : Circuit). AreLong c.loop-kept.kept.items (source_count (net_of v))) (sym c.graph.ensures) c.loop-kept.invariant.long
 
 pub returns-in-Closed-clause-closed : goal.returns-in-Closed-clause-closed
 returns-in-Closed-clause-closed g c =
@@ -19,7 +19,7 @@ returns-in-Closed-clause-closed g c =
 
 pub loop-kept-preserved : goal.loop-kept-preserved
 loop-kept-preserved g c =
-    let long : AreLong c.pass.new.kept.items (source_count (net_of c.loop-kept.trial.graph)) = subst (λ (v : Circuit). AreLong c.pass.new.kept.items (source_count (net_of v))) c.graph.ensures c.in_ok-verdicts.ensures.long in
+    let long : AreLong c.pass_twice.new.kept.items (source_count (net_of c.loop-kept.trial.graph)) = subst (λ (v : Circuit). AreLong c.pass_twice.new.kept.items (source_count (net_of v))) c.graph.ensures c.in_ok-verdicts.ensures.long in
     record {
       gone = gone_then c.texts_append.ensures c.runs_join.ensures (net_of c.args.trial.now.graph) (net_of c.loop-kept.trial.graph) (net_of c.record_fix.new.trial.graph) c.loop-kept.made c.record_fix.new.made (g.S.Shelf.files c.args.shelf.now) (g.S.Shelf.files c.loop-kept.shelf) (g.S.Shelf.files c.record_fix.new.shelf) c.args.journal.now
           c.loop-kept.invariant.gone c.in_ok-record_fix-in-Refuted.ensures.recorded c.in_ok-record_fix-in-Refuted.ensures.fewer;
@@ -38,4 +38,4 @@ returns-in_err-record_fix-in-Refuted-clause-stopped g c =
 
 pub returns-in-Closed-clause-found : goal.returns-in-Closed-clause-found
 returns-in-Closed-clause-found g c =
-    blocks_have_all c.pass.new.kept.items _ c.in-Closed.verdicts.items (rw c.as_slice.ensures.value at c.in_ok-found-in-Closed.ensures) (subst (AreKeptOf c.pass.new.kept.items) c.in-Closed.is c.in_ok-verdicts.ensures.kept)
+    blocks_have_all c.pass_twice.new.kept.items _ c.in-Closed.verdicts.items (rw c.as_slice.ensures.value at c.in_ok-found-in-Closed.ensures) (subst (AreKeptOf c.pass_twice.new.kept.items) c.in-Closed.is c.in_ok-verdicts.ensures.kept)

@@ -6,7 +6,7 @@ use Rattle.rm_base.specs.declared.numbers.NodeId.{NodeId}
 
 abbrev pub invariant-loop-node : goal.invariant-loop-node
 invariant-loop-node l = record {
-  all : (k : ℕ) (n : NodeId) → k < l.node-index → slice_get l.nodes k ≡ Some n → IsSeen l.agenda n.0;
-  kept : (z : ℕ) → IsSeen l.initial.agenda z → IsSeen l.agenda z;
-  size : length l.agenda ≡ length l.initial.agenda;
+  all : (k : ℕ) (n : NodeId) → k < l.node-index → slice_get l.nodes k ≡ Some n → IsSeen l.worklist n.0;
+  kept : (z : ℕ) → IsSeen l.initial.worklist z → IsSeen l.worklist z;
+  size : length l.worklist ≡ length l.initial.worklist;
 }

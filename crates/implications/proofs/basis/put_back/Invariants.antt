@@ -1,7 +1,7 @@
 use Rattle.std.proofs.Common.{length, ◌≡◌}
 use Rattle.implications.proofs.Bases.{Putting}
 use Rattle.implications.proofs.basis.put_back.Given as goal
-use Rattle.refutation.specs.Agendas.{seen_count}
+use Rattle.refutation.specs.Worklists.{seen_count}
 use Rattle.refutation.specs.FactSets.{held_by}
 
 abbrev pub invariant-loop-node : goal.invariant-loop-node

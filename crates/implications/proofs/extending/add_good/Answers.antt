@@ -15,7 +15,7 @@ pub work_off-requires-clause-tallied : goal.work_off-requires-clause-tallied
 work_off-requires-clause-tallied c = tallied_by (net_of c.args.question.now.graph.now) c.args.facts.now c.insert.new.self c.args.node.0 (Good c.args.value) c.args.question.now.fault.position c.touch.new.tallies c.insert.ensures.facts c.touch.ensures.tallied
 
 pub work_off-requires-clause-pending : goal.work_off-requires-clause-pending
-work_off-requires-clause-pending c = good_pending (net_of c.args.question.now.graph.now) c.args.question.now.fault c.args.facts.now c.insert.new.self c.args.agenda.now c.touch.new.agenda c.args.node.0 (Good c.args.value) c.requires.closed c.insert.ensures.facts c.touch.ensures.touches
+work_off-requires-clause-pending c = good_pending (net_of c.args.question.now.graph.now) c.args.question.now.fault c.args.facts.now c.insert.new.self c.args.worklist.now c.touch.new.worklist c.args.node.0 (Good c.args.value) c.requires.closed c.insert.ensures.facts c.touch.ensures.touches
 
 pub work_off-requires-clause-free : goal.work_off-requires-clause-free
 work_off-requires-clause-free c = good_free c.args.facts.now c.insert.new.self c.args.node.0 c.args.value c.requires.free c.requires.unknown c.insert.ensures.facts

@@ -25,7 +25,7 @@ returns-then-branch-clause-works c =
 
 pub returns-then-branch-clause-pending : goal.returns-then-branch-clause-pending
 returns-then-branch-clause-pending c =
-    pending_touched (net_of c.args.question.now.graph.now) c.args.question.now.fault c.args.facts.now c.add_found.new.facts c.args.agenda.now c.add_found.new.agenda c.in-Some.node.0 c.in-Some.fact c.in_ok-add_found.ensures.holds.facts c.add_found.ensures.touches
+    pending_touched (net_of c.args.question.now.graph.now) c.args.question.now.fault c.args.facts.now c.add_found.new.facts c.args.worklist.now c.add_found.new.worklist c.in-Some.node.0 c.in-Some.fact c.in_ok-add_found.ensures.holds.facts c.add_found.ensures.touches
 
 pub returns-clause-works : goal.returns-clause-works
 returns-clause-works c =
@@ -34,4 +34,4 @@ returns-clause-works c =
 
 pub returns-clause-pending : goal.returns-clause-pending
 returns-clause-pending c =
-    pending_touched (net_of c.args.question.now.graph.now) c.args.question.now.fault c.args.facts.now c.add_found.new.facts c.args.agenda.now c.add_found.new.agenda c.in-Some.node.0 c.in-Some.fact c.in_ok-add_found.ensures.holds.facts c.add_found.ensures.touches
+    pending_touched (net_of c.args.question.now.graph.now) c.args.question.now.fault c.args.facts.now c.add_found.new.facts c.args.worklist.now c.add_found.new.worklist c.in-Some.node.0 c.in-Some.fact c.in_ok-add_found.ensures.holds.facts c.add_found.ensures.touches

@@ -16,5 +16,5 @@ returns-clause-keeps c = keeps_join c.args.facts.now c.args.log.now.trail.items 
 
 pub returns-clause-pending : goal.returns-clause-pending
 returns-clause-pending c =
-    works_ok (StaysPending (net_of c.args.question.now.graph.now) c.args.question.now.fault c.give.new.facts c.give.new.agenda c.give-2.new.facts c.give-2.new.agenda) (StaysPending (net_of c.args.question.now.graph.now) c.args.question.now.fault c.args.facts.now c.args.agenda.now c.give-2.new.facts c.give-2.new.agenda) c.give-2.result
+    works_ok (StaysPending (net_of c.args.question.now.graph.now) c.args.question.now.fault c.give.new.facts c.give.new.worklist c.give-2.new.facts c.give-2.new.worklist) (StaysPending (net_of c.args.question.now.graph.now) c.args.question.now.fault c.args.facts.now c.args.worklist.now c.give-2.new.facts c.give-2.new.worklist) c.give-2.result
     (λ after pending. after (c.in_ok-clash.ensures.pending pending)) c.give-2.ensures.pending

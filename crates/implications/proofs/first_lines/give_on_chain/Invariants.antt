@@ -5,4 +5,4 @@ use Rattle.implications.specs.Inner.Beginning.{Chaining, IsGoing, StaysPending}
 abbrev pub invariant-loop-step : goal.invariant-loop-step
 invariant-loop-step l =
     Chaining (net_of l.question.graph.now) l.question.fault l.initial.facts l.initial.log.lines.items l.initial.log.trail.items l.facts l.log.lines.items l.log.trail.items l.at.0 l._step
-    × (IsGoing (net_of l.question.graph.now) l.question.fault l.facts l.initial.agenda l.initial.tallies l.agenda l.tallies × StaysPending (net_of l.question.graph.now) l.question.fault l.initial.facts l.initial.agenda l.facts l.agenda)
+    × (IsGoing (net_of l.question.graph.now) l.question.fault l.facts l.initial.worklist l.initial.tallies l.worklist l.tallies × StaysPending (net_of l.question.graph.now) l.question.fault l.initial.facts l.initial.worklist l.facts l.worklist)

@@ -15,10 +15,10 @@ pub returns-in_err-value : goal.returns-in_err-value
 returns-in_err-value c os h = rw c.from_residual.ensures (pull_unknown c.args.c os c.args.known (sym (c.junction_forward.ensures os h) ∙ c.in_default.is) c.in_err-value.was)
 
 pub returns-then-value-c : goal.returns-then-value-c
-returns-then-value-c c os h = pull_other c.args.glance c.args.c c.in_ok-value.value os c.args.known h (sym (c.junction_forward.ensures os h) ∙ c.in_default.is) c.in_ok-value.was (other_one c.in_ok-value.value c.args.c c.if-value-c.true)
+returns-then-value-c c os h = pull_other c.args.scan c.args.c c.in_ok-value.value os c.args.known h (sym (c.junction_forward.ensures os h) ∙ c.in_default.is) c.in_ok-value.was (other_one c.in_ok-value.value c.args.c c.if-value-c.true)
 
-pub returns-then-glance-eq1 : goal.returns-then-glance-eq1
-returns-then-glance-eq1 c os h = pull_one c.args.glance c.args.c c.in_ok-value.value os c.args.known h (sym (c.junction_forward.ensures os h) ∙ c.in_default.is) c.in_ok-value.was (never_other c.in_ok-value.value c.args.c c.if-value-c.false) c.if-glance-eq1.true
+pub returns-then-scan-eq1 : goal.returns-then-scan-eq1
+returns-then-scan-eq1 c os h = pull_one c.args.scan c.args.c c.in_ok-value.value os c.args.known h (sym (c.junction_forward.ensures os h) ∙ c.in_default.is) c.in_ok-value.was (never_other c.in_ok-value.value c.args.c c.if-value-c.false) c.if-scan-eq1.true
 
 pub returns : goal.returns
-returns c os h = pull_many c.args.glance c.args.c os c.args.known h (sym (c.junction_forward.ensures os h) ∙ c.in_default.is) (c.in_ok-value.was ∙ ap Some (never_other c.in_ok-value.value c.args.c c.if-value-c.false)) c.if-glance-eq1.false
+returns c os h = pull_many c.args.scan c.args.c os c.args.known h (sym (c.junction_forward.ensures os h) ∙ c.in_default.is) (c.in_ok-value.was ∙ ap Some (never_other c.in_ok-value.value c.args.c c.if-value-c.false)) c.if-scan-eq1.false

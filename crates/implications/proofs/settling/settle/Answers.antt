@@ -20,42 +20,42 @@ returns-in_err-add_found-clause-keeps c =
 
 pub returns-then-branch-clause-works : goal.returns-then-branch-clause-works
 returns-then-branch-clause-works c =
-    settled_works (net_of c.args.question.now.graph.now) c.args.question.now.fault c.args.facts.now c.args.log.now.lines.items c.args.log.now.trail.items c.args.agenda.now c.sweep.new.facts c.sweep.new.log.lines.items c.sweep.new.log.trail.items c.sweep.new.agenda c.args.node.0
-    (settling_join (net_of c.args.question.now.graph.now) c.args.question.now.fault c.args.facts.now c.args.log.now.lines.items c.args.log.now.trail.items c.args.agenda.now c.loop-clash.facts c.loop-clash.log.lines.items c.loop-clash.log.trail.items c.loop-clash.agenda c.sweep.new.facts c.sweep.new.log.lines.items c.sweep.new.log.trail.items c.sweep.new.agenda c.args.node.0 c.loop-clash.invariant.state
-    (sweeps_none (net_of c.args.question.now.graph.now) c.args.question.now.fault c.loop-clash.facts c.loop-clash.log.lines.items c.loop-clash.log.trail.items c.loop-clash.agenda c.sweep.new.facts c.sweep.new.log.lines.items c.sweep.new.log.trail.items c.sweep.new.agenda c.args.node.0 c.in_ok-clash.field-0 c.in_default.is c.in_ok-clash.ensures.sweeps))
+    settled_works (net_of c.args.question.now.graph.now) c.args.question.now.fault c.args.facts.now c.args.log.now.lines.items c.args.log.now.trail.items c.args.worklist.now c.sweep.new.facts c.sweep.new.log.lines.items c.sweep.new.log.trail.items c.sweep.new.worklist c.args.node.0
+    (settling_join (net_of c.args.question.now.graph.now) c.args.question.now.fault c.args.facts.now c.args.log.now.lines.items c.args.log.now.trail.items c.args.worklist.now c.loop-clash.facts c.loop-clash.log.lines.items c.loop-clash.log.trail.items c.loop-clash.worklist c.sweep.new.facts c.sweep.new.log.lines.items c.sweep.new.log.trail.items c.sweep.new.worklist c.args.node.0 c.loop-clash.invariant.state
+    (sweeps_none (net_of c.args.question.now.graph.now) c.args.question.now.fault c.loop-clash.facts c.loop-clash.log.lines.items c.loop-clash.log.trail.items c.loop-clash.worklist c.sweep.new.facts c.sweep.new.log.lines.items c.sweep.new.log.trail.items c.sweep.new.worklist c.args.node.0 c.in_ok-clash.field-0 c.in_default.is c.in_ok-clash.ensures.sweeps))
     c.in-Some-next_line.found c.in-Some-next_line.ensures.next c.add_found.new.facts c.add_found.new.log.lines.items c.add_found.new.log.trail.items c.in_ok-add_found.ensures.holds c.add_found.ensures.keeps
 
 pub returns-then-branch-clause-keeps : goal.returns-then-branch-clause-keeps
 returns-then-branch-clause-keeps c =
-    settled_keeps (net_of c.args.question.now.graph.now) c.args.question.now.fault c.args.facts.now c.args.log.now.lines.items c.args.log.now.trail.items c.args.agenda.now c.sweep.new.facts c.sweep.new.log.lines.items c.sweep.new.log.trail.items c.sweep.new.agenda c.args.node.0
-    (settling_join (net_of c.args.question.now.graph.now) c.args.question.now.fault c.args.facts.now c.args.log.now.lines.items c.args.log.now.trail.items c.args.agenda.now c.loop-clash.facts c.loop-clash.log.lines.items c.loop-clash.log.trail.items c.loop-clash.agenda c.sweep.new.facts c.sweep.new.log.lines.items c.sweep.new.log.trail.items c.sweep.new.agenda c.args.node.0 c.loop-clash.invariant.state
-    (sweeps_none (net_of c.args.question.now.graph.now) c.args.question.now.fault c.loop-clash.facts c.loop-clash.log.lines.items c.loop-clash.log.trail.items c.loop-clash.agenda c.sweep.new.facts c.sweep.new.log.lines.items c.sweep.new.log.trail.items c.sweep.new.agenda c.args.node.0 c.in_ok-clash.field-0 c.in_default.is c.in_ok-clash.ensures.sweeps))
+    settled_keeps (net_of c.args.question.now.graph.now) c.args.question.now.fault c.args.facts.now c.args.log.now.lines.items c.args.log.now.trail.items c.args.worklist.now c.sweep.new.facts c.sweep.new.log.lines.items c.sweep.new.log.trail.items c.sweep.new.worklist c.args.node.0
+    (settling_join (net_of c.args.question.now.graph.now) c.args.question.now.fault c.args.facts.now c.args.log.now.lines.items c.args.log.now.trail.items c.args.worklist.now c.loop-clash.facts c.loop-clash.log.lines.items c.loop-clash.log.trail.items c.loop-clash.worklist c.sweep.new.facts c.sweep.new.log.lines.items c.sweep.new.log.trail.items c.sweep.new.worklist c.args.node.0 c.loop-clash.invariant.state
+    (sweeps_none (net_of c.args.question.now.graph.now) c.args.question.now.fault c.loop-clash.facts c.loop-clash.log.lines.items c.loop-clash.log.trail.items c.loop-clash.worklist c.sweep.new.facts c.sweep.new.log.lines.items c.sweep.new.log.trail.items c.sweep.new.worklist c.args.node.0 c.in_ok-clash.field-0 c.in_default.is c.in_ok-clash.ensures.sweeps))
     c.in-Some-next_line.found c.in-Some-next_line.ensures.next c.add_found.new.facts c.add_found.new.log.lines.items c.add_found.new.log.trail.items c.in_ok-add_found.ensures.holds c.add_found.ensures.keeps
 
 pub returns-then-branch-clause-less : goal.returns-then-branch-clause-less
 returns-then-branch-clause-less c =
-    settled_less (net_of c.args.question.now.graph.now) c.args.question.now.fault c.args.facts.now c.args.log.now.lines.items c.args.log.now.trail.items c.args.agenda.now c.sweep.new.facts c.sweep.new.log.lines.items c.sweep.new.log.trail.items c.sweep.new.agenda c.args.node.0
-    (settling_join (net_of c.args.question.now.graph.now) c.args.question.now.fault c.args.facts.now c.args.log.now.lines.items c.args.log.now.trail.items c.args.agenda.now c.loop-clash.facts c.loop-clash.log.lines.items c.loop-clash.log.trail.items c.loop-clash.agenda c.sweep.new.facts c.sweep.new.log.lines.items c.sweep.new.log.trail.items c.sweep.new.agenda c.args.node.0 c.loop-clash.invariant.state
-    (sweeps_none (net_of c.args.question.now.graph.now) c.args.question.now.fault c.loop-clash.facts c.loop-clash.log.lines.items c.loop-clash.log.trail.items c.loop-clash.agenda c.sweep.new.facts c.sweep.new.log.lines.items c.sweep.new.log.trail.items c.sweep.new.agenda c.args.node.0 c.in_ok-clash.field-0 c.in_default.is c.in_ok-clash.ensures.sweeps))
+    settled_less (net_of c.args.question.now.graph.now) c.args.question.now.fault c.args.facts.now c.args.log.now.lines.items c.args.log.now.trail.items c.args.worklist.now c.sweep.new.facts c.sweep.new.log.lines.items c.sweep.new.log.trail.items c.sweep.new.worklist c.args.node.0
+    (settling_join (net_of c.args.question.now.graph.now) c.args.question.now.fault c.args.facts.now c.args.log.now.lines.items c.args.log.now.trail.items c.args.worklist.now c.loop-clash.facts c.loop-clash.log.lines.items c.loop-clash.log.trail.items c.loop-clash.worklist c.sweep.new.facts c.sweep.new.log.lines.items c.sweep.new.log.trail.items c.sweep.new.worklist c.args.node.0 c.loop-clash.invariant.state
+    (sweeps_none (net_of c.args.question.now.graph.now) c.args.question.now.fault c.loop-clash.facts c.loop-clash.log.lines.items c.loop-clash.log.trail.items c.loop-clash.worklist c.sweep.new.facts c.sweep.new.log.lines.items c.sweep.new.log.trail.items c.sweep.new.worklist c.args.node.0 c.in_ok-clash.field-0 c.in_default.is c.in_ok-clash.ensures.sweeps))
     c.in-Some-next_line.found c.in-Some-next_line.ensures.next c.add_found.new.facts c.add_found.new.log.lines.items c.add_found.new.log.trail.items c.in_ok-add_found.ensures.holds c.add_found.ensures.keeps
-    c.add_found.new.agenda c.add_found.ensures.touches
+    c.add_found.new.worklist c.add_found.ensures.touches
 
 pub loop-clash-smaller : goal.loop-clash-smaller
 loop-clash-smaller c =
-    less_than (settled_smaller (net_of c.args.question.now.graph.now) c.args.question.now.fault c.args.facts.now c.args.log.now.lines.items c.args.log.now.trail.items c.args.agenda.now c.sweep.new.facts c.sweep.new.log.lines.items c.sweep.new.log.trail.items c.sweep.new.agenda c.args.node.0
-    (settling_join (net_of c.args.question.now.graph.now) c.args.question.now.fault c.args.facts.now c.args.log.now.lines.items c.args.log.now.trail.items c.args.agenda.now c.loop-clash.facts c.loop-clash.log.lines.items c.loop-clash.log.trail.items c.loop-clash.agenda c.sweep.new.facts c.sweep.new.log.lines.items c.sweep.new.log.trail.items c.sweep.new.agenda c.args.node.0 c.loop-clash.invariant.state
-    (sweeps_none (net_of c.args.question.now.graph.now) c.args.question.now.fault c.loop-clash.facts c.loop-clash.log.lines.items c.loop-clash.log.trail.items c.loop-clash.agenda c.sweep.new.facts c.sweep.new.log.lines.items c.sweep.new.log.trail.items c.sweep.new.agenda c.args.node.0 c.in_ok-clash.field-0 c.in_default.is c.in_ok-clash.ensures.sweeps))
+    less_than (settled_smaller (net_of c.args.question.now.graph.now) c.args.question.now.fault c.args.facts.now c.args.log.now.lines.items c.args.log.now.trail.items c.args.worklist.now c.sweep.new.facts c.sweep.new.log.lines.items c.sweep.new.log.trail.items c.sweep.new.worklist c.args.node.0
+    (settling_join (net_of c.args.question.now.graph.now) c.args.question.now.fault c.args.facts.now c.args.log.now.lines.items c.args.log.now.trail.items c.args.worklist.now c.loop-clash.facts c.loop-clash.log.lines.items c.loop-clash.log.trail.items c.loop-clash.worklist c.sweep.new.facts c.sweep.new.log.lines.items c.sweep.new.log.trail.items c.sweep.new.worklist c.args.node.0 c.loop-clash.invariant.state
+    (sweeps_none (net_of c.args.question.now.graph.now) c.args.question.now.fault c.loop-clash.facts c.loop-clash.log.lines.items c.loop-clash.log.trail.items c.loop-clash.worklist c.sweep.new.facts c.sweep.new.log.lines.items c.sweep.new.log.trail.items c.sweep.new.worklist c.args.node.0 c.in_ok-clash.field-0 c.in_default.is c.in_ok-clash.ensures.sweeps))
     c.in-Some-next_line.found c.in-Some-next_line.ensures.next c.add_found.new.facts c.add_found.new.log.lines.items c.add_found.new.log.trail.items c.in_ok-add_found.ensures.holds c.add_found.ensures.keeps
-    c.add_found.new.agenda c.add_found.ensures.touches)
-    (sweeps_none (net_of c.args.question.now.graph.now) c.args.question.now.fault c.loop-clash.facts c.loop-clash.log.lines.items c.loop-clash.log.trail.items c.loop-clash.agenda c.sweep.new.facts c.sweep.new.log.lines.items c.sweep.new.log.trail.items c.sweep.new.agenda c.args.node.0 c.in_ok-clash.field-0 c.in_default.is c.in_ok-clash.ensures.sweeps).less
+    c.add_found.new.worklist c.add_found.ensures.touches)
+    (sweeps_none (net_of c.args.question.now.graph.now) c.args.question.now.fault c.loop-clash.facts c.loop-clash.log.lines.items c.loop-clash.log.trail.items c.loop-clash.worklist c.sweep.new.facts c.sweep.new.log.lines.items c.sweep.new.log.trail.items c.sweep.new.worklist c.args.node.0 c.in_ok-clash.field-0 c.in_default.is c.in_ok-clash.ensures.sweeps).less
 
 pub loop-clash-preserved : goal.loop-clash-preserved
 loop-clash-preserved c = record {
-  state = settling_more (net_of c.args.question.now.graph.now) c.args.question.now.fault c.args.facts.now c.args.log.now.lines.items c.args.log.now.trail.items c.args.agenda.now c.sweep.new.facts c.sweep.new.log.lines.items c.sweep.new.log.trail.items c.sweep.new.agenda c.args.node.0
-      (settling_join (net_of c.args.question.now.graph.now) c.args.question.now.fault c.args.facts.now c.args.log.now.lines.items c.args.log.now.trail.items c.args.agenda.now c.loop-clash.facts c.loop-clash.log.lines.items c.loop-clash.log.trail.items c.loop-clash.agenda c.sweep.new.facts c.sweep.new.log.lines.items c.sweep.new.log.trail.items c.sweep.new.agenda c.args.node.0 c.loop-clash.invariant.state
-      (sweeps_none (net_of c.args.question.now.graph.now) c.args.question.now.fault c.loop-clash.facts c.loop-clash.log.lines.items c.loop-clash.log.trail.items c.loop-clash.agenda c.sweep.new.facts c.sweep.new.log.lines.items c.sweep.new.log.trail.items c.sweep.new.agenda c.args.node.0 c.in_ok-clash.field-0 c.in_default.is c.in_ok-clash.ensures.sweeps))
+  state = settling_more (net_of c.args.question.now.graph.now) c.args.question.now.fault c.args.facts.now c.args.log.now.lines.items c.args.log.now.trail.items c.args.worklist.now c.sweep.new.facts c.sweep.new.log.lines.items c.sweep.new.log.trail.items c.sweep.new.worklist c.args.node.0
+      (settling_join (net_of c.args.question.now.graph.now) c.args.question.now.fault c.args.facts.now c.args.log.now.lines.items c.args.log.now.trail.items c.args.worklist.now c.loop-clash.facts c.loop-clash.log.lines.items c.loop-clash.log.trail.items c.loop-clash.worklist c.sweep.new.facts c.sweep.new.log.lines.items c.sweep.new.log.trail.items c.sweep.new.worklist c.args.node.0 c.loop-clash.invariant.state
+      (sweeps_none (net_of c.args.question.now.graph.now) c.args.question.now.fault c.loop-clash.facts c.loop-clash.log.lines.items c.loop-clash.log.trail.items c.loop-clash.worklist c.sweep.new.facts c.sweep.new.log.lines.items c.sweep.new.log.trail.items c.sweep.new.worklist c.args.node.0 c.in_ok-clash.field-0 c.in_default.is c.in_ok-clash.ensures.sweeps))
       c.in-Some-next_line.found c.in-Some-next_line.ensures.next c.add_found.new.facts c.add_found.new.log.lines.items c.add_found.new.log.trail.items c.in_ok-add_found.ensures.holds c.add_found.ensures.keeps
-      c.add_found.new.agenda c.add_found.ensures.touches (not_opposed c.in_ok-add_found.field-0 c.add_found.new.facts c.in-Some-next_line.found.node.0 c.if-branch.false c.in_ok-add_found.ensures.opposed);
+      c.add_found.new.worklist c.add_found.ensures.touches (not_opposed c.in_ok-add_found.field-0 c.add_found.new.facts c.in-Some-next_line.found.node.0 c.if-branch.false c.in_ok-add_found.ensures.opposed);
   tallied = c.in_ok-add_found.ensures.tallied;
   room = c.add_found.ensures.room ∙ c.next_line.ensures.room ∙ c.sweep.ensures.room ∙ c.loop-clash.invariant.room;
 }

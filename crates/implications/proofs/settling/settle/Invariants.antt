@@ -7,10 +7,10 @@ use Rattle.refutation.specs.FactSets.{held_by}
 
 abbrev pub invariant-loop-clash : goal.invariant-loop-clash
 invariant-loop-clash l = record {
-  state : Settling (net_of l.question.graph.now) l.question.fault l.initial.facts l.initial.log.lines.items l.initial.log.trail.items l.initial.agenda l.facts l.log.lines.items l.log.trail.items l.agenda l.node.0;
+  state : Settling (net_of l.question.graph.now) l.question.fault l.initial.facts l.initial.log.lines.items l.initial.log.trail.items l.initial.worklist l.facts l.log.lines.items l.log.trail.items l.worklist l.node.0;
   tallied : AreTallied (net_of l.question.graph.now) (held_by l.facts) l.question.fault.position l.tallies;
   room : length l.tallies.counted ≡ length l.initial.tallies.counted;
 }
 
 abbrev pub decreases-loop-clash : goal.decreases-loop-clash
-decreases-loop-clash l = work l.facts l.agenda
+decreases-loop-clash l = work l.facts l.worklist

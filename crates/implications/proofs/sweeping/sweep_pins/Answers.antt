@@ -26,15 +26,15 @@ returns-in-Some-2-clause-keeps c = keeps_join c.args.facts.now c.args.log.now.tr
 
 pub returns-in-Some-2-clause-sweeps : goal.returns-in-Some-2-clause-sweeps
 returns-in-Some-2-clause-sweeps c =
-    stops_join (net_of c.args.question.now.graph.now) c.args.question.now.fault c.args.facts.now c.args.log.now.lines.items c.args.log.now.trail.items c.args.agenda.now c.loop-driver.facts c.loop-driver.log.lines.items c.loop-driver.log.trail.items c.loop-driver.agenda c.sweep_pin.new.facts c.sweep_pin.new.log.lines.items c.sweep_pin.new.log.trail.items c.sweep_pin.new.agenda c.args.node.0 c.loop-driver.invariant.state c.in-Some-2.clash.0
-    (sweeps_some (net_of c.args.question.now.graph.now) c.args.question.now.fault c.loop-driver.facts c.loop-driver.log.lines.items c.loop-driver.log.trail.items c.loop-driver.agenda c.sweep_pin.new.facts c.sweep_pin.new.log.lines.items c.sweep_pin.new.log.trail.items c.sweep_pin.new.agenda c.args.node.0 c.in_ok-clash.field-0 c.in-Some-2.clash c.in-Some-2.is c.in_ok-clash.ensures.sweeps)
+    stops_join (net_of c.args.question.now.graph.now) c.args.question.now.fault c.args.facts.now c.args.log.now.lines.items c.args.log.now.trail.items c.args.worklist.now c.loop-driver.facts c.loop-driver.log.lines.items c.loop-driver.log.trail.items c.loop-driver.worklist c.sweep_pin.new.facts c.sweep_pin.new.log.lines.items c.sweep_pin.new.log.trail.items c.sweep_pin.new.worklist c.args.node.0 c.loop-driver.invariant.state c.in-Some-2.clash.0
+    (sweeps_some (net_of c.args.question.now.graph.now) c.args.question.now.fault c.loop-driver.facts c.loop-driver.log.lines.items c.loop-driver.log.trail.items c.loop-driver.worklist c.sweep_pin.new.facts c.sweep_pin.new.log.lines.items c.sweep_pin.new.log.trail.items c.sweep_pin.new.worklist c.args.node.0 c.in_ok-clash.field-0 c.in-Some-2.clash c.in-Some-2.is c.in_ok-clash.ensures.sweeps)
 
 pub loop-driver-preserved : goal.loop-driver-preserved
 loop-driver-preserved c = record {
   all = yielded_more (λ (d : NodeId). d.0) c.into_iter-driver-iterator.result c.loop-driver.yielded c.in-Some.driver _ _ c.loop-driver.invariant.all c.in-Some.ensures.steps;
   count = rw (length-append, c.loop-driver.invariant.count) refl;
-  state = settling_join (net_of c.args.question.now.graph.now) c.args.question.now.fault c.args.facts.now c.args.log.now.lines.items c.args.log.now.trail.items c.args.agenda.now c.loop-driver.facts c.loop-driver.log.lines.items c.loop-driver.log.trail.items c.loop-driver.agenda c.sweep_pin.new.facts c.sweep_pin.new.log.lines.items c.sweep_pin.new.log.trail.items c.sweep_pin.new.agenda c.args.node.0 c.loop-driver.invariant.state
-      (sweeps_none (net_of c.args.question.now.graph.now) c.args.question.now.fault c.loop-driver.facts c.loop-driver.log.lines.items c.loop-driver.log.trail.items c.loop-driver.agenda c.sweep_pin.new.facts c.sweep_pin.new.log.lines.items c.sweep_pin.new.log.trail.items c.sweep_pin.new.agenda c.args.node.0 c.in_ok-clash.field-0 c.in_default.is c.in_ok-clash.ensures.sweeps);
+  state = settling_join (net_of c.args.question.now.graph.now) c.args.question.now.fault c.args.facts.now c.args.log.now.lines.items c.args.log.now.trail.items c.args.worklist.now c.loop-driver.facts c.loop-driver.log.lines.items c.loop-driver.log.trail.items c.loop-driver.worklist c.sweep_pin.new.facts c.sweep_pin.new.log.lines.items c.sweep_pin.new.log.trail.items c.sweep_pin.new.worklist c.args.node.0 c.loop-driver.invariant.state
+      (sweeps_none (net_of c.args.question.now.graph.now) c.args.question.now.fault c.loop-driver.facts c.loop-driver.log.lines.items c.loop-driver.log.trail.items c.loop-driver.worklist c.sweep_pin.new.facts c.sweep_pin.new.log.lines.items c.sweep_pin.new.log.trail.items c.sweep_pin.new.worklist c.args.node.0 c.in_ok-clash.field-0 c.in_default.is c.in_ok-clash.ensures.sweeps);
   tallied = c.in_ok-clash.ensures.tallied;
   room = c.sweep_pin.ensures.room ∙ c.loop-driver.invariant.room;
 }

@@ -10,7 +10,7 @@ abbrev pub invariant-loop-driver : goal.invariant-loop-driver
 invariant-loop-driver l = record {
   all : l.initial.driver-iterator ≡ map (λ (d : NodeId). d.0) l.yielded ++ l.driver-iterator;
   count : l.position ≡ length l.yielded;
-  state : Settling (net_of l.question.graph.now) l.question.fault l.initial.facts l.initial.log.lines.items l.initial.log.trail.items l.initial.agenda l.facts l.log.lines.items l.log.trail.items l.agenda l.node.0;
+  state : Settling (net_of l.question.graph.now) l.question.fault l.initial.facts l.initial.log.lines.items l.initial.log.trail.items l.initial.worklist l.facts l.log.lines.items l.log.trail.items l.worklist l.node.0;
   tallied : AreTallied (net_of l.question.graph.now) (held_by l.facts) l.question.fault.position l.tallies;
   room : length l.tallies.counted ≡ length l.initial.tallies.counted;
 }

@@ -10,9 +10,9 @@ use Rattle.rm_base.specs.declared.numbers.NodeId.{NodeId}
 abbrev pub invariant-loop-reader : goal.invariant-loop-reader
 invariant-loop-reader l = record {
   all : l.initial.reader-iterator ≡ map (λ (d : NodeId). d.0) l.yielded ++ l.reader-iterator;
-  kept : (z : ℕ) → IsSeen l.fn.agenda z → IsSeen l.agenda z;
-  itself : IsSeen l.agenda l.fn.node.0;
-  done : (k : ℕ) (gate : NodeId) → slice_get l.yielded k ≡ Some gate → IsSeen l.agenda gate.0;
-  size : length l.agenda ≡ length l.fn.agenda;
+  kept : (z : ℕ) → IsSeen l.fn.worklist z → IsSeen l.worklist z;
+  itself : IsSeen l.worklist l.fn.node.0;
+  done : (k : ℕ) (gate : NodeId) → slice_get l.yielded k ≡ Some gate → IsSeen l.worklist gate.0;
+  size : length l.worklist ≡ length l.fn.worklist;
   raised : Raises (rise_by (held_by l.facts) l.fn.node.0 l.fn.fact) l.fn.tallies l.tallies (map (λ (d : NodeId). d.0) l.yielded);
 }

@@ -7,9 +7,9 @@ use Rattle.wire_edit.specs.Tried.{Tidies}
 use Rattle.wire_edit.proofs.Public.{never_full, next_applies}
 use Rattle.wire_edit.specs.Laws.{IsTidying}
 use Rattle.wire_edit.specs.Steps.{Applies}
-use Rattle.merging.specs.Inner.Changing.{HasNoted, NotesOn}
+use Rattle.changed_nodes.specs.Changing.{HasNoted, NotesOn}
 use Rattle.merging.specs.Inner.Going.{Goes}
-use Rattle.merging.proofs.Noting.{tidying_no_not}
+use Rattle.changed_nodes.proofs.Public.{tidying_no_not}
 use Rattle.merging.proofs.GoingOn.{goes_none, goes_then, stays_none, stays_then, tidied_step, tidied_wires}
 use Rattle.merging.proofs.tidying.tidy.Goals as goal
 

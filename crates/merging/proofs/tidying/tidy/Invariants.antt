@@ -2,7 +2,7 @@ use Rattle.std.proofs.Common.{◌≤◌}
 use Rattle.gate_graph.specs.Circuit.{net_of}
 use Rattle.gate_net.specs.Net.{wire_count}
 use Rattle.wire_edit.specs.Work.{work}
-use Rattle.merging.specs.Inner.Changing.{NotesOn}
+use Rattle.changed_nodes.specs.Changing.{NotesOn}
 use Rattle.merging.specs.Inner.Going.{Goes, Stays}
 use Rattle.merging.proofs.tidying.tidy.Given as goal
 

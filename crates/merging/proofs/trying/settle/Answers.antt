@@ -7,10 +7,10 @@ use Rattle.rm_base.specs.declared.numbers.NodeId.{NodeId}
 use Rattle.wire_edit.proofs.Public.{tidy_reads_none}
 use Rattle.wire_edit.specs.Order.{IsTidy}
 use Rattle.wire_edit.specs.Tried.{Tried}
-use Rattle.merging.specs.Inner.Changing.{ListsNoted}
+use Rattle.changed_nodes.specs.Changing.{ListsNoted}
 use Rattle.merging.specs.Inner.Going.{Goes}
 use Rattle.merging.proofs.GoingOn.{follows_steps}
-use Rattle.merging.proofs.Noting.{same_listed}
+use Rattle.changed_nodes.proofs.Public.{same_listed}
 use Rattle.merging.proofs.trying.settle.Goals as goal
 
 pub follow-requires : goal.follow-requires

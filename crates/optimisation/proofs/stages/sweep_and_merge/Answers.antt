@@ -24,7 +24,7 @@ returns-in_err-merged-clause-stopped g c =
 
 pub returns-clause-merged : goal.returns-clause-merged
 returns-clause-merged g c =
-    swept_merged c.runs_join.ensures c.texts_append.ensures (net_of c.args.graph) (net_of c.in_ok-swept.swept) (net_of c.in_ok-merged.merged.graph) c.args.settings.now.depth c.in_ok-swept.made c.in_ok-merged.merged.made c.both.result c.in_ok-merged.merged.changed
+    swept_merged c.runs_join.ensures c.texts_append.ensures (net_of c.args.graph) (net_of c.in_ok-swept.swept) (net_of c.in_ok-merged.merged.graph) c.sweep_depth.result c.in_ok-swept.made c.in_ok-merged.merged.made c.both.result c.in_ok-merged.merged.changed
     (g.S.Shelf.files c.args.shelf.now) (g.S.Shelf.files c.remove_redundant.new.shelf) (g.S.Shelf.files c.merge_gates.new.shelf) c.args.journal.now
     c.in_ok-swept.ensures.removed c.in_ok-merged.ensures.merged c.in_ok-merged.ensures.few c.both.ensures
 

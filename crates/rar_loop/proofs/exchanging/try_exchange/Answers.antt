@@ -17,7 +17,8 @@ use Rattle.rar_loop.specs.Inner.Kept.{AreFor}
 use Rattle.rar_loop.specs.Inner.Trying.{HasReplaced, IsBack, IsReplaced}
 use Rattle.rar_loop.proofs.Exchanges.{exchanged_kept, exchanged_on}
 use Rattle.rar_loop.proofs.Looping.{same_size}
-use Rattle.rar_loop.proofs.Noting.{differs_none, same_back}
+use Rattle.changed_nodes.proofs.Public.{same_back}
+use Rattle.rar_loop.proofs.Differing.{differs_none}
 use Rattle.rar_loop.proofs.Readying.{ready_first}
 use Rattle.rar_loop.proofs.Replacing.{some_wire}
 use Rattle.rar_loop.proofs.exchanging.try_exchange.Goals as goal

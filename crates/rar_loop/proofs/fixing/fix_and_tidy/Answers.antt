@@ -7,7 +7,7 @@ use Rattle.gate_net.specs.Net.{Net, IsWellFormed}
 use Rattle.gate_graph.specs.Circuit.{Circuit, net_of}
 use Rattle.wire_edit.specs.Work.{work}
 use Rattle.wire_edit.specs.Tidying.{TidiesTo}
-use Rattle.rar_loop.specs.Inner.Changing.{HasNoted, NotesOn}
+use Rattle.changed_nodes.specs.Changing.{HasNoted, NotesOn}
 use Rattle.rar_loop.specs.Inner.Going.{Goes}
 use Rattle.rar_loop.proofs.GoingOn.{goes_then, fixed_step, fix_refused}
 use Rattle.rar_loop.proofs.fixing.fix_and_tidy.Goals as goal

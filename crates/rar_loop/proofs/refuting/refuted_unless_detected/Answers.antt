@@ -6,7 +6,7 @@ returns-then-detect-clause-looked c =
     let found = c.detect.ensures.detected c.if-detect.true in
     c.detected_faults_stay_open.ensures.sets (net_of c.args.question.now.graph.now) c.args.question.now.fault c.well_formed-2.ensures.net.acyclic c.args.question.now.pin found.0 found.1 c.args.depth
 
-pub returns-then-found-clause-looked : goal.returns-then-found-clause-looked
-returns-then-found-clause-looked c =
-    let found = c.in_ok-found.ensures.detected c.if-found.true in
+pub returns-in_Detected-clause-looked : goal.returns-in_Detected-clause-looked
+returns-in_Detected-clause-looked c =
+    let found = c.in_ok-seek.ensures.sought in
     c.detected_faults_stay_open.ensures.sets (net_of c.args.question.now.graph.now) c.args.question.now.fault c.well_formed-2.ensures.net.acyclic c.args.question.now.pin found.0 found.1 c.args.depth

@@ -5,12 +5,12 @@ use Rattle.gate_graph.specs.Circuit.{Circuit, net_of}
 use Rattle.wire_edit.specs.Work.{work}
 use Rattle.wire_edit.specs.Tried.{Tried, Tidies}
 use Rattle.wire_edit.specs.Tidying.{TidiesTo, tidy, then}
-use Rattle.rar_loop.specs.Inner.Changing.{HasNoted, NotesOn}
+use Rattle.changed_nodes.specs.Changing.{HasNoted, NotesOn}
 use Rattle.rar_loop.specs.Inner.Going.{Goes}
 use Rattle.wire_edit.proofs.Public.{never_full, next_applies}
 use Rattle.wire_edit.specs.Laws.{IsTidying}
 use Rattle.wire_edit.specs.Steps.{Applies}
-use Rattle.rar_loop.proofs.Noting.{tidying_no_not}
+use Rattle.changed_nodes.proofs.Public.{tidying_no_not}
 use Rattle.rar_loop.proofs.GoingOn.{goes_none, goes_then, tidied_step}
 use Rattle.rar_loop.proofs.tidying.tidy.Goals as goal
 

@@ -14,7 +14,8 @@ use Rattle.candidate_wires.specs.Gains.{with_candidate}
 use Rattle.recursive_learning.specs.Serving.{IsServing}
 use Rattle.rar_loop.specs.Inner.Kept.{AreFor}
 use Rattle.rar_loop.specs.Inner.Trying.{HasReplaced, IsBack, IsBetter, IsReplaced}
-use Rattle.rar_loop.proofs.Noting.{differs_none, same_back}
+use Rattle.changed_nodes.proofs.Public.{same_back}
+use Rattle.rar_loop.proofs.Differing.{differs_none}
 use Rattle.rar_loop.proofs.Opens.{no_fewer_fails}
 use Rattle.rar_loop.proofs.Readying.{ready_first}
 use Rattle.rar_loop.proofs.Replacing.{better_of, lent_ahead, not_replaced_fails, some_wire}
@@ -34,8 +35,8 @@ replace-requires-clause-room c = omega (arith, ap (λ r. r.nodes) c.requires.rea
 pub replace-requires-clause-pins : goal.replace-requires-clause-pins
 replace-requires-clause-pins c = omega (arith, ap (λ r. r.pins) c.requires.ready.lent.room, c.requires.ready.lent.pins, some_wire (net_of c.args.space.now.trial.graph) c.args.pair.now.fault c.requires.pair.pin)
 
-pub returns-then-not-refuted-clause-attempt : goal.returns-then-not-refuted-clause-attempt
-returns-then-not-refuted-clause-attempt c =
+pub returns-then-not-refuted-clause-try_outcome : goal.returns-then-not-refuted-clause-try_outcome
+returns-then-not-refuted-clause-try_outcome c =
     let t = c.args.space.now.trial in
     let net : Net = net_of t.graph in
     let after : Net = net_of c.replace.new.space.trial.graph in
@@ -46,8 +47,8 @@ returns-then-not-refuted-clause-attempt c =
       not_replaced_fails c.closed_has_all.ensures net after c.args.pair.now c.args.depth c.replace.new.log.items fails,
     )
 
-pub returns-then-wire_count-wires-clause-attempt : goal.returns-then-wire_count-wires-clause-attempt
-returns-then-wire_count-wires-clause-attempt c =
+pub returns-then-wire_count-wires-clause-try_outcome : goal.returns-then-wire_count-wires-clause-try_outcome
+returns-then-wire_count-wires-clause-try_outcome c =
     let t = c.args.space.now.trial in
     let net : Net = net_of t.graph in
     let after : Net = net_of c.replace.new.space.trial.graph in
@@ -69,8 +70,8 @@ returns-then-wire_count-wires-clause-attempt c =
       lent = lent_ahead c.accepted_steps_keep.ensures t c.replace.new.space.trial c.keep.new.self c.args.pair.now c.args.depth c.replace.new.log.items formed c.requires.ready.lent replaced better (c.in_ok-refuted.ensures.left some) c.in_ok-refuted.ensures.first c.keep.ensures.entries c.keep.ensures.room c.keep.ensures.first c.keep.ensures.net;
     }
 
-pub returns-clause-attempt : goal.returns-clause-attempt
-returns-clause-attempt c =
+pub returns-clause-try_outcome : goal.returns-clause-try_outcome
+returns-clause-try_outcome c =
     let t = c.args.space.now.trial in
     let net : Net = net_of t.graph in
     let after : Net = net_of c.replace.new.space.trial.graph in

@@ -5,9 +5,9 @@ use Rattle.gate_net.specs.Net.{Net, wire_count}
 use Rattle.gate_net.specs.Values.{HasPin}
 use Rattle.gate_graph.specs.Circuit.{Circuit, net_of}
 use Rattle.candidate_wires.specs.Pairs.{turn_of}
-use Rattle.rar_loop.specs.declared.walking.Tour.TheVariants.{Done, Spent, Gained}
-use Rattle.rar_loop.specs.Inner.Walking.{AreUsedUp, IsTargetTour}
-use Rattle.rar_loop.proofs.Pairing.{WalkedTo, tour_back, walked_none, walked_more, walked_to, walked_all, turn_pin, back_none}
+use Rattle.rar_loop.specs.declared.walking.WalkOutcome.TheVariants.{Done, Spent, Gained}
+use Rattle.rar_loop.specs.Inner.Walking.{AreUsedUp, IsTargetOutcome}
+use Rattle.rar_loop.proofs.Pairing.{WalkedTo, walk_outcome_back, walked_none, walked_more, walked_to, walked_all, turn_pin, back_none}
 use Rattle.rar_loop.proofs.Spacing.{ready_ahead, ready_still}
 use Rattle.rar_loop.proofs.walking.walk_targets.Goals as goal
 use Rattle.rm_base.proofs.Public.{read_stands}
@@ -37,12 +37,12 @@ returns-in-Spent c =
     let lt : c.loop-place.place < length c.in_ok-faults.faults.items = omega (arith, c.loop-place-test.true, c.len-place-end.ensures, c.in_ok-faults.faults.ok.0) in
     let at : slice_get c.in_ok-faults.faults.items c.loop-place.place ≡ Some t = read_stands c.in_ok-faults.faults.items c.loop-place.place t lt c.index-target.ensures in
     let are : c.in_ok-faults.faults.items ≡ turn_of net c.args.start = c.in_ok-faults.ensures ∙ ap (λ (v : Circuit). turn_of (net_of v) c.args.start) c.graph.ensures in
-    let tw : IsTargetTour c.loop-place.space.trial t c.args.limits.now.settings.depth c.loop-place.left c.walk_target.new.left c.walk_target.new.space.trial (Spent c.in-Spent.at c.in-Spent.work) = subst (IsTargetTour c.loop-place.space.trial t c.args.limits.now.settings.depth c.loop-place.left c.walk_target.new.left c.walk_target.new.space.trial) c.in-Spent.is c.in_ok-walk_target.ensures.tour in
-    let here : IsTargetTour c.args.space.now.trial t c.args.limits.now.settings.depth c.loop-place.left c.walk_target.new.left c.walk_target.new.space.trial (Spent c.in-Spent.at c.in-Spent.work) = tour_back c.args.space.now.trial c.loop-place.space.trial c.walk_target.new.space.trial t c.args.limits.now.settings.depth c.loop-place.left c.walk_target.new.left (Spent c.in-Spent.at c.in-Spent.work) inv.stays tw in
+    let tw : IsTargetOutcome c.loop-place.space.trial t c.args.limits.now.settings.depth c.loop-place.left c.walk_target.new.left c.walk_target.new.space.trial (Spent c.in-Spent.at c.in-Spent.work) = subst (IsTargetOutcome c.loop-place.space.trial t c.args.limits.now.settings.depth c.loop-place.left c.walk_target.new.left c.walk_target.new.space.trial) c.in-Spent.is c.in_ok-walk_target.ensures.walk_outcome in
+    let here : IsTargetOutcome c.args.space.now.trial t c.args.limits.now.settings.depth c.loop-place.left c.walk_target.new.left c.walk_target.new.space.trial (Spent c.in-Spent.at c.in-Spent.work) = walk_outcome_back c.args.space.now.trial c.loop-place.space.trial c.walk_target.new.space.trial t c.args.limits.now.settings.depth c.loop-place.left c.walk_target.new.left (Spent c.in-Spent.at c.in-Spent.work) inv.stays tw in
     let to : WalkedTo net c.args.start c.in-Spent.at (length inv.walked.pairs + here.1.1.0) =
     walked_to net c.args.start c.in_ok-faults.faults.items c.loop-place.place c.args.left.now c.loop-place.left t here.1.0 here.1.1.0 c.in-Spent.at are inv.walked at here.1.1.1.0 here.1.1.1.1.0 here.1.1.1.1.1.0 (length inv.walked.pairs + here.1.1.0) (omega (arith, inv.walked.sum)) in
     record {
-      tour = (here.0, (to.pairs, (to.before, (to.none, omega (arith, to.count, inv.walked.sum, here.1.1.1.1.1.1)))));
+      walk_outcome = (here.0, (to.pairs, (to.before, (to.none, omega (arith, to.count, inv.walked.sum, here.1.1.1.1.1.1)))));
       ends = subst (AreUsedUp c.args.limits.now.settings c.walk_target.new.left) c.in-Spent.is c.in_ok-walk_target.ensures.ends;
       ready = ready_still c.args.space.now c.walk_target.new.space c.requires.ready here.0 c.in_ok-walk_target.ensures.tools;
     }
@@ -55,12 +55,12 @@ returns-in-Gained c =
     let lt : c.loop-place.place < length c.in_ok-faults.faults.items = omega (arith, c.loop-place-test.true, c.len-place-end.ensures, c.in_ok-faults.faults.ok.0) in
     let at : slice_get c.in_ok-faults.faults.items c.loop-place.place ≡ Some t = read_stands c.in_ok-faults.faults.items c.loop-place.place t lt c.index-target.ensures in
     let are : c.in_ok-faults.faults.items ≡ turn_of net c.args.start = c.in_ok-faults.ensures ∙ ap (λ (v : Circuit). turn_of (net_of v) c.args.start) c.graph.ensures in
-    let tw : IsTargetTour c.loop-place.space.trial t c.args.limits.now.settings.depth c.loop-place.left c.walk_target.new.left c.walk_target.new.space.trial (Gained c.in-Gained.pair c.in-Gained.records) = subst (IsTargetTour c.loop-place.space.trial t c.args.limits.now.settings.depth c.loop-place.left c.walk_target.new.left c.walk_target.new.space.trial) c.in-Gained.is c.in_ok-walk_target.ensures.tour in
-    let here : IsTargetTour c.args.space.now.trial t c.args.limits.now.settings.depth c.loop-place.left c.walk_target.new.left c.walk_target.new.space.trial (Gained c.in-Gained.pair c.in-Gained.records) = tour_back c.args.space.now.trial c.loop-place.space.trial c.walk_target.new.space.trial t c.args.limits.now.settings.depth c.loop-place.left c.walk_target.new.left (Gained c.in-Gained.pair c.in-Gained.records) inv.stays tw in
+    let tw : IsTargetOutcome c.loop-place.space.trial t c.args.limits.now.settings.depth c.loop-place.left c.walk_target.new.left c.walk_target.new.space.trial (Gained c.in-Gained.pair c.in-Gained.records) = subst (IsTargetOutcome c.loop-place.space.trial t c.args.limits.now.settings.depth c.loop-place.left c.walk_target.new.left c.walk_target.new.space.trial) c.in-Gained.is c.in_ok-walk_target.ensures.walk_outcome in
+    let here : IsTargetOutcome c.args.space.now.trial t c.args.limits.now.settings.depth c.loop-place.left c.walk_target.new.left c.walk_target.new.space.trial (Gained c.in-Gained.pair c.in-Gained.records) = walk_outcome_back c.args.space.now.trial c.loop-place.space.trial c.walk_target.new.space.trial t c.args.limits.now.settings.depth c.loop-place.left c.walk_target.new.left (Gained c.in-Gained.pair c.in-Gained.records) inv.stays tw in
     let to : WalkedTo net c.args.start c.in-Gained.pair (length inv.walked.pairs + here.1.0) =
     walked_to net c.args.start c.in_ok-faults.faults.items c.loop-place.place c.args.left.now c.loop-place.left t here.0 here.1.0 c.in-Gained.pair are inv.walked at here.1.1.0 here.1.1.1.0 here.1.1.1.1.0 (length inv.walked.pairs + here.1.0) (omega (arith, inv.walked.sum)) in
     record {
-      tour = (to.pairs, (to.before, (to.none, (omega (arith, to.count, inv.walked.sum, here.1.1.1.1.1.0), here.1.1.1.1.1.1))));
+      walk_outcome = (to.pairs, (to.before, (to.none, (omega (arith, to.count, inv.walked.sum, here.1.1.1.1.1.0), here.1.1.1.1.1.1))));
       ends = tt;
       ready = ready_ahead c.args.space.now c.walk_target.new.space c.in-Gained.pair c.args.limits.now.settings.depth c.in-Gained.records.items here.1.1.1.1.1.1 c.in_ok-walk_target.ensures.tools;
     }
@@ -72,8 +72,8 @@ loop-place-preserved c =
     let inv = c.loop-place.invariant in
     let lt : c.loop-place.place < length c.in_ok-faults.faults.items = omega (arith, c.loop-place-test.true, c.len-place-end.ensures, c.in_ok-faults.faults.ok.0) in
     let at : slice_get c.in_ok-faults.faults.items c.loop-place.place ≡ Some t = read_stands c.in_ok-faults.faults.items c.loop-place.place t lt c.index-target.ensures in
-    let tw : IsTargetTour c.loop-place.space.trial t c.args.limits.now.settings.depth c.loop-place.left c.walk_target.new.left c.walk_target.new.space.trial Done = subst (IsTargetTour c.loop-place.space.trial t c.args.limits.now.settings.depth c.loop-place.left c.walk_target.new.left c.walk_target.new.space.trial) c.in-Done.is c.in_ok-walk_target.ensures.tour in
-    let here : IsTargetTour c.args.space.now.trial t c.args.limits.now.settings.depth c.loop-place.left c.walk_target.new.left c.walk_target.new.space.trial Done = tour_back c.args.space.now.trial c.loop-place.space.trial c.walk_target.new.space.trial t c.args.limits.now.settings.depth c.loop-place.left c.walk_target.new.left Done inv.stays tw in
+    let tw : IsTargetOutcome c.loop-place.space.trial t c.args.limits.now.settings.depth c.loop-place.left c.walk_target.new.left c.walk_target.new.space.trial Done = subst (IsTargetOutcome c.loop-place.space.trial t c.args.limits.now.settings.depth c.loop-place.left c.walk_target.new.left c.walk_target.new.space.trial) c.in-Done.is c.in_ok-walk_target.ensures.walk_outcome in
+    let here : IsTargetOutcome c.args.space.now.trial t c.args.limits.now.settings.depth c.loop-place.left c.walk_target.new.left c.walk_target.new.space.trial Done = walk_outcome_back c.args.space.now.trial c.loop-place.space.trial c.walk_target.new.space.trial t c.args.limits.now.settings.depth c.loop-place.left c.walk_target.new.left Done inv.stays tw in
     record {
       stays = here.0;
       walked = walked_more net c.in_ok-faults.faults.items c.loop-place.place c.args.left.now c.loop-place.left c.walk_target.new.left t here.1.0 inv.walked at here.1.1.0 here.1.1.1;
@@ -92,7 +92,7 @@ returns c =
     let inv = c.loop-place.invariant in
     let are : c.in_ok-faults.faults.items ≡ turn_of net c.args.start = c.in_ok-faults.ensures ∙ ap (λ (v : Circuit). turn_of (net_of v) c.args.start) c.graph.ensures in
     record {
-      tour = (inv.stays, walked_all net c.args.start c.in_ok-faults.faults.items c.loop-place.place c.args.left.now c.loop-place.left are (omega (arith, c.loop-place-test.false, c.len-place-end.ensures, c.in_ok-faults.faults.ok.0)) inv.walked);
+      walk_outcome = (inv.stays, walked_all net c.args.start c.in_ok-faults.faults.items c.loop-place.place c.args.left.now c.loop-place.left are (omega (arith, c.loop-place-test.false, c.len-place-end.ensures, c.in_ok-faults.faults.ok.0)) inv.walked);
       ends = tt;
       ready = ready_still c.args.space.now c.loop-place.space c.requires.ready inv.stays inv.tools;
     }

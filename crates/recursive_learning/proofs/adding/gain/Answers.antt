@@ -3,7 +3,7 @@ use Rattle.std.proofs.lemmas.Option.{slice_get-get_or}
 use Rattle.gate_graph.specs.Circuit.{net_of}
 use Rattle.recursive_learning.proofs.Gains.{gaining_clash, gaining_more, keeps_join}
 use Rattle.recursive_learning.specs.Inner.Working.{IsLearned}
-use Rattle.recursive_learning.specs.declared.lessons.GoodValue.{GoodValue}
+use Rattle.recursive_learning.specs.declared.justified_values.GoodValue.{GoodValue}
 use Rattle.refutation.specs.FactSets.{held_by}
 use Rattle.refutation.specs.Facts.{with_fact}
 use Rattle.refutation.specs.declared.reasoning.Fact.TheVariants.{Good}

@@ -15,19 +15,19 @@ use Rattle.recursive_learning.proofs.Holdings.{IsBefore, before_all, before_none
 use Rattle.recursive_learning.proofs.Missing.{missing_within}
 use Rattle.recursive_learning.proofs.Refutes.{clash_at_deeper}
 use Rattle.recursive_learning.proofs.Regions.{covered_more, region_of, region_stays, stays_idle}
-use Rattle.recursive_learning.proofs.Rounds.{Learning, forced_clash, forced_join, junction_below, learned_join, learning_more, learning_none, learning_quiet, lesson_of, taken_back, taught_nothing, visit_clash, visit_gain, visit_gain_clash}
+use Rattle.recursive_learning.proofs.Rounds.{Learning, forced_clash, forced_join, junction_below, learned_join, learning_more, learning_none, learning_quiet, justified_of, taken_back, taught_nothing, visit_clash, visit_gain, visit_gain_clash}
 use Rattle.recursive_learning.proofs.Turns.{forced_at_deeper, gained_not_clash, lt_of, quiet_not_clash, round_clash, round_each, round_gates, round_more, round_settled, together_free, turn_learning, turn_quiet, work_gained, work_taken}
 use Rattle.recursive_learning.proofs.Vecs.{driver_at, empty_is, full_is, map_some, true_false}
 use Rattle.recursive_learning.proofs.Watches.{known_begun, known_longer, known_more, known_same, known_still, known_taken, known_taught, leaves_join, lengthens_join, lengthens_leaves, lengthens_none, lengthens_rests, lengthens_still, lengthens_taken, none_leaves, region_covers, room_leaves, room_longer, room_still, watching_known, watching_leaves, watching_more}
 use Rattle.recursive_learning.specs.Inner.Gates.{AreJustifications, HasTaught}
 use Rattle.recursive_learning.specs.Inner.Holding.{NamesAll}
 use Rattle.recursive_learning.specs.Least.{IsLeastAt}
-use Rattle.recursive_learning.specs.Inner.Lessons.{AreCommon, AreFound, HasLooked, IsEach, IsGained, IsLesson, IsOne, IsRound, MeetsOneMore, Teaches}
+use Rattle.recursive_learning.specs.Inner.JustifiedValues.{AreCommon, AreFound, HasLooked, IsEach, IsGained, IsJustified, IsOne, IsRound, MeetsOneMore, Teaches}
 use Rattle.recursive_learning.specs.Inner.Watching.{HasRegion, IsCovered, Lengthens, StaysTaught, looks_left}
 use Rattle.recursive_learning.specs.Inner.Working.{IsLearned}
-use Rattle.recursive_learning.specs.declared.lessons.GoodValue.{GoodValue}
-use Rattle.recursive_learning.specs.declared.lessons.Round.{Round}
-use Rattle.recursive_learning.specs.declared.lessons.Round.TheVariants.{Clash, Gained, Quiet}
+use Rattle.recursive_learning.specs.declared.justified_values.GoodValue.{GoodValue}
+use Rattle.recursive_learning.specs.declared.justified_values.Round.{Round}
+use Rattle.recursive_learning.specs.declared.justified_values.Round.TheVariants.{Clash, Gained, Quiet}
 use Rattle.refutation.specs.Closing.{IsWithin}
 use Rattle.refutation.specs.FactSets.{held_by, missing}
 use Rattle.refutation.specs.Facts.{with_fact}
@@ -37,7 +37,7 @@ use Rattle.refutation.specs.declared.reasoning.Fact.{Fact}
 use Rattle.refutation.specs.declared.reasoning.Fact.TheVariants.{Good}
 use Rattle.rm_base.specs.declared.numbers.NodeId.{NodeId}
 use Rattle.recursive_learning.proofs.learning.+learning.Goals as goal
-use Rattle.recursive_learning.proofs.learning.+learning.Goals.{lesson_at-else-common-via-else-common, lesson_at-else-common-via-then-common+else-is_empty-2}
+use Rattle.recursive_learning.proofs.learning.+learning.Goals.{justified_at-else-common-via-else-common, justified_at-else-common-via-then-common+else-is_empty-2}
 
 -- IN COMMON
 
@@ -334,126 +334,126 @@ visit_deep-returns-else-branch-clause-keeps t c =
 
 pub visit-returns-in_default-clause-round : goal.visit-returns-in_default-clause-round
 visit-returns-in_default-clause-round t c =
-    (c.in_ok-lesson.ensures.same, λ y is. subst (HasTaught (net_of c.args.question.now.graph.now) c.args.question.now.fault c.args.depth (held_by c.args.facts.now)) (sym is) (subst (Teaches (net_of c.args.question.now.graph.now) c.args.question.now.fault c.args.depth (held_by c.args.facts.now) c.args.gate.0) c.in_default.is c.in_ok-lesson.ensures.lesson))
+    (c.in_ok-justified.ensures.same, λ y is. subst (HasTaught (net_of c.args.question.now.graph.now) c.args.question.now.fault c.args.depth (held_by c.args.facts.now)) (sym is) (subst (Teaches (net_of c.args.question.now.graph.now) c.args.question.now.fault c.args.depth (held_by c.args.facts.now) c.args.gate.0) c.in_default.is c.in_ok-justified.ensures.justified))
 
 pub visit-returns-in_default-clause-known : goal.visit-returns-in_default-clause-known
 visit-returns-in_default-clause-known t c ne y known =
-    rw c.in_ok-lesson.ensures.same (known_longer (net_of c.args.question.now.graph.now) c.args.question.now.fault (held_by c.args.facts.now) c.args.watch.now c.lesson_at.new.watch c.in_ok-lesson.ensures.leaves y known)
+    rw c.in_ok-justified.ensures.same (known_longer (net_of c.args.question.now.graph.now) c.args.question.now.fault (held_by c.args.facts.now) c.args.watch.now c.justified_at.new.watch c.in_ok-justified.ensures.leaves y known)
 
 pub visit-returns-in_default-clause-stays : goal.visit-returns-in_default-clause-stays
 visit-returns-in_default-clause-stays t c e zero unknown =
-    rw c.in_ok-lesson.ensures.same (c.in_ok-lesson.ensures.stays c.in_default.is zero unknown)
+    rw c.in_ok-justified.ensures.same (c.in_ok-justified.ensures.stays c.in_default.is zero unknown)
 
-pub visit-returns-then-not-lesson-clause-round : goal.visit-returns-then-not-lesson-clause-round
-visit-returns-then-not-lesson-clause-round t c =
-    visit_clash (net_of c.args.question.now.graph.now) c.args.question.now.fault c.args.depth (held_by c.args.facts.now) c.args.gate.0 c.in-Some.lesson.value (map (λ n. n.0) c.in-Some.lesson.drivers.items) c.in-Some.lesson.found c.in-Some.lesson.goods.items (subst (Teaches (net_of c.args.question.now.graph.now) c.args.question.now.fault c.args.depth (held_by c.args.facts.now) c.args.gate.0) c.in-Some.is c.in_ok-lesson.ensures.lesson) c.if-not-lesson.true
+pub visit-returns-then-not-justified-clause-round : goal.visit-returns-then-not-justified-clause-round
+visit-returns-then-not-justified-clause-round t c =
+    visit_clash (net_of c.args.question.now.graph.now) c.args.question.now.fault c.args.depth (held_by c.args.facts.now) c.args.gate.0 c.in-Some.justified.value (map (λ n. n.0) c.in-Some.justified.drivers.items) c.in-Some.justified.found c.in-Some.justified.goods.items (subst (Teaches (net_of c.args.question.now.graph.now) c.args.question.now.fault c.args.depth (held_by c.args.facts.now) c.args.gate.0) c.in-Some.is c.in_ok-justified.ensures.justified) c.if-not-justified.true
 
 pub visit-gain-requires-clause-new : goal.visit-gain-requires-clause-new
 visit-gain-requires-clause-new t c =
-    let l : IsLesson (net_of c.args.question.now.graph.now) c.args.question.now.fault c.args.depth (held_by c.args.facts.now) c.args.gate.0 c.in-Some.lesson.value (map (λ n. n.0) c.in-Some.lesson.drivers.items) c.in-Some.lesson.found c.in-Some.lesson.goods.items = (subst (Teaches (net_of c.args.question.now.graph.now) c.args.question.now.fault c.args.depth (held_by c.args.facts.now) c.args.gate.0) c.in-Some.is c.in_ok-lesson.ensures.lesson) in
-    rw (c.deref.ensures.value, c.in_ok-lesson.ensures.same) (l.new c.if-not-lesson.false)
+    let l : IsJustified (net_of c.args.question.now.graph.now) c.args.question.now.fault c.args.depth (held_by c.args.facts.now) c.args.gate.0 c.in-Some.justified.value (map (λ n. n.0) c.in-Some.justified.drivers.items) c.in-Some.justified.found c.in-Some.justified.goods.items = (subst (Teaches (net_of c.args.question.now.graph.now) c.args.question.now.fault c.args.depth (held_by c.args.facts.now) c.args.gate.0) c.in-Some.is c.in_ok-justified.ensures.justified) in
+    rw (c.deref.ensures.value, c.in_ok-justified.ensures.same) (l.new c.if-not-justified.false)
 
 pub visit-returns-then-branch-clause-round : goal.visit-returns-then-branch-clause-round
 visit-returns-then-branch-clause-round t c =
-    let l : IsLesson (net_of c.args.question.now.graph.now) c.args.question.now.fault c.args.depth (held_by c.args.facts.now) c.args.gate.0 c.in-Some.lesson.value (map (λ n. n.0) c.in-Some.lesson.drivers.items) c.in-Some.lesson.found c.in-Some.lesson.goods.items = (subst (Teaches (net_of c.args.question.now.graph.now) c.args.question.now.fault c.args.depth (held_by c.args.facts.now) c.args.gate.0) c.in-Some.is c.in_ok-lesson.ensures.lesson) in
-    let g : IsGained (net_of c.args.question.now.graph.now) c.args.question.now.fault c.in-Some.lesson.goods.items c.args.facts.now true c.gain.new.facts =
-    subst (λ (f : List NodeFacts). IsGained (net_of c.args.question.now.graph.now) c.args.question.now.fault c.in-Some.lesson.goods.items f true c.gain.new.facts) c.in_ok-lesson.ensures.same
-    (subst (λ (goods : List GoodValue). IsGained (net_of c.args.question.now.graph.now) c.args.question.now.fault goods c.lesson_at.new.facts true c.gain.new.facts) c.deref.ensures.value
-    (subst (λ (b : Bool). IsGained (net_of c.args.question.now.graph.now) c.args.question.now.fault c.deref.result.now c.lesson_at.new.facts b c.gain.new.facts) c.if-branch.true c.in_ok-gain.ensures.gained)) in
-    visit_gain_clash (net_of c.args.question.now.graph.now) c.args.question.now.fault c.args.depth c.args.gate.0 c.in-Some.lesson.value (map (λ n. n.0) c.in-Some.lesson.drivers.items) c.in-Some.lesson.found c.in-Some.lesson.goods.items c.args.facts.now c.gain.new.facts l c.if-not-lesson.false g
+    let l : IsJustified (net_of c.args.question.now.graph.now) c.args.question.now.fault c.args.depth (held_by c.args.facts.now) c.args.gate.0 c.in-Some.justified.value (map (λ n. n.0) c.in-Some.justified.drivers.items) c.in-Some.justified.found c.in-Some.justified.goods.items = (subst (Teaches (net_of c.args.question.now.graph.now) c.args.question.now.fault c.args.depth (held_by c.args.facts.now) c.args.gate.0) c.in-Some.is c.in_ok-justified.ensures.justified) in
+    let g : IsGained (net_of c.args.question.now.graph.now) c.args.question.now.fault c.in-Some.justified.goods.items c.args.facts.now true c.gain.new.facts =
+    subst (λ (f : List NodeFacts). IsGained (net_of c.args.question.now.graph.now) c.args.question.now.fault c.in-Some.justified.goods.items f true c.gain.new.facts) c.in_ok-justified.ensures.same
+    (subst (λ (goods : List GoodValue). IsGained (net_of c.args.question.now.graph.now) c.args.question.now.fault goods c.justified_at.new.facts true c.gain.new.facts) c.deref.ensures.value
+    (subst (λ (b : Bool). IsGained (net_of c.args.question.now.graph.now) c.args.question.now.fault c.deref.result.now c.justified_at.new.facts b c.gain.new.facts) c.if-branch.true c.in_ok-gain.ensures.gained)) in
+    visit_gain_clash (net_of c.args.question.now.graph.now) c.args.question.now.fault c.args.depth c.args.gate.0 c.in-Some.justified.value (map (λ n. n.0) c.in-Some.justified.drivers.items) c.in-Some.justified.found c.in-Some.justified.goods.items c.args.facts.now c.gain.new.facts l c.if-not-justified.false g
 
 pub visit-returns-then-branch-clause-keeps : goal.visit-returns-then-branch-clause-keeps
 visit-returns-then-branch-clause-keeps t c =
-    keeps_join c.args.engine.now c.lesson_at.new.engine c.gain.new.engine c.args.facts.now c.lesson_at.new.facts c.gain.new.facts c.in_ok-lesson.ensures.keeps c.in_ok-gain.ensures.keeps
+    keeps_join c.args.engine.now c.justified_at.new.engine c.gain.new.engine c.args.facts.now c.justified_at.new.facts c.gain.new.facts c.in_ok-justified.ensures.keeps c.in_ok-gain.ensures.keeps
 
 pub visit-added_facts-requires : goal.visit-added_facts-requires
 visit-added_facts-requires t c =
-    let h : LeadsBack c.gain.new.engine.trail c.mark-mark.result c.gain.new.facts c.lesson_at.new.facts = c.in_ok-gain.ensures.keeps.back c.mark-mark.result c.lesson_at.new.facts (c.mark-mark.ensures.back c.lesson_at.new.facts) in
+    let h : LeadsBack c.gain.new.engine.trail c.mark-mark.result c.gain.new.facts c.justified_at.new.facts = c.in_ok-gain.ensures.keeps.back c.mark-mark.result c.justified_at.new.facts (c.mark-mark.ensures.back c.justified_at.new.facts) in
     h.order
 
 pub visit-returns-clause-round : goal.visit-returns-clause-round
 visit-returns-clause-round t c =
-    let l : IsLesson (net_of c.args.question.now.graph.now) c.args.question.now.fault c.args.depth (held_by c.args.facts.now) c.args.gate.0 c.in-Some.lesson.value (map (λ n. n.0) c.in-Some.lesson.drivers.items) c.in-Some.lesson.found c.in-Some.lesson.goods.items = (subst (Teaches (net_of c.args.question.now.graph.now) c.args.question.now.fault c.args.depth (held_by c.args.facts.now) c.args.gate.0) c.in-Some.is c.in_ok-lesson.ensures.lesson) in
-    let g : IsGained (net_of c.args.question.now.graph.now) c.args.question.now.fault c.in-Some.lesson.goods.items c.args.facts.now false c.gain.new.facts =
-    subst (λ (f : List NodeFacts). IsGained (net_of c.args.question.now.graph.now) c.args.question.now.fault c.in-Some.lesson.goods.items f false c.gain.new.facts) c.in_ok-lesson.ensures.same
-    (subst (λ (goods : List GoodValue). IsGained (net_of c.args.question.now.graph.now) c.args.question.now.fault goods c.lesson_at.new.facts false c.gain.new.facts) c.deref.ensures.value
-    (subst (λ (b : Bool). IsGained (net_of c.args.question.now.graph.now) c.args.question.now.fault c.deref.result.now c.lesson_at.new.facts b c.gain.new.facts) c.if-branch.false c.in_ok-gain.ensures.gained)) in
-    visit_gain (net_of c.args.question.now.graph.now) c.args.question.now.fault c.args.depth c.args.gate.0 c.in-Some.lesson.value (map (λ n. n.0) c.in-Some.lesson.drivers.items) c.in-Some.lesson.found c.in-Some.lesson.goods.items (IsOne c.args.gate.0) c.args.facts.now c.gain.new.facts l c.if-not-lesson.false g
+    let l : IsJustified (net_of c.args.question.now.graph.now) c.args.question.now.fault c.args.depth (held_by c.args.facts.now) c.args.gate.0 c.in-Some.justified.value (map (λ n. n.0) c.in-Some.justified.drivers.items) c.in-Some.justified.found c.in-Some.justified.goods.items = (subst (Teaches (net_of c.args.question.now.graph.now) c.args.question.now.fault c.args.depth (held_by c.args.facts.now) c.args.gate.0) c.in-Some.is c.in_ok-justified.ensures.justified) in
+    let g : IsGained (net_of c.args.question.now.graph.now) c.args.question.now.fault c.in-Some.justified.goods.items c.args.facts.now false c.gain.new.facts =
+    subst (λ (f : List NodeFacts). IsGained (net_of c.args.question.now.graph.now) c.args.question.now.fault c.in-Some.justified.goods.items f false c.gain.new.facts) c.in_ok-justified.ensures.same
+    (subst (λ (goods : List GoodValue). IsGained (net_of c.args.question.now.graph.now) c.args.question.now.fault goods c.justified_at.new.facts false c.gain.new.facts) c.deref.ensures.value
+    (subst (λ (b : Bool). IsGained (net_of c.args.question.now.graph.now) c.args.question.now.fault c.deref.result.now c.justified_at.new.facts b c.gain.new.facts) c.if-branch.false c.in_ok-gain.ensures.gained)) in
+    visit_gain (net_of c.args.question.now.graph.now) c.args.question.now.fault c.args.depth c.args.gate.0 c.in-Some.justified.value (map (λ n. n.0) c.in-Some.justified.drivers.items) c.in-Some.justified.found c.in-Some.justified.goods.items (IsOne c.args.gate.0) c.args.facts.now c.gain.new.facts l c.if-not-justified.false g
 
 pub visit-returns-clause-keeps : goal.visit-returns-clause-keeps
 visit-returns-clause-keeps t c =
-    keeps_join c.args.engine.now c.lesson_at.new.engine c.gain.new.engine c.args.facts.now c.lesson_at.new.facts c.gain.new.facts c.in_ok-lesson.ensures.keeps c.in_ok-gain.ensures.keeps
+    keeps_join c.args.engine.now c.justified_at.new.engine c.gain.new.engine c.args.facts.now c.justified_at.new.facts c.gain.new.facts c.in_ok-justified.ensures.keeps c.in_ok-gain.ensures.keeps
 
 pub visit-returns-clause-known : goal.visit-returns-clause-known
 visit-returns-clause-known t c ne y known =
-    let l : IsLesson (net_of c.args.question.now.graph.now) c.args.question.now.fault c.args.depth (held_by c.args.facts.now) c.args.gate.0 c.in-Some.lesson.value (map (λ n. n.0) c.in-Some.lesson.drivers.items) c.in-Some.lesson.found c.in-Some.lesson.goods.items = (subst (Teaches (net_of c.args.question.now.graph.now) c.args.question.now.fault c.args.depth (held_by c.args.facts.now) c.args.gate.0) c.in-Some.is c.in_ok-lesson.ensures.lesson) in
-    let g : IsGained (net_of c.args.question.now.graph.now) c.args.question.now.fault c.in-Some.lesson.goods.items c.args.facts.now false c.gain.new.facts =
-    subst (λ (f : List NodeFacts). IsGained (net_of c.args.question.now.graph.now) c.args.question.now.fault c.in-Some.lesson.goods.items f false c.gain.new.facts) c.in_ok-lesson.ensures.same
-    (subst (λ (goods : List GoodValue). IsGained (net_of c.args.question.now.graph.now) c.args.question.now.fault goods c.lesson_at.new.facts false c.gain.new.facts) c.deref.ensures.value
-    (subst (λ (b : Bool). IsGained (net_of c.args.question.now.graph.now) c.args.question.now.fault c.deref.result.now c.lesson_at.new.facts b c.gain.new.facts) c.if-branch.false c.in_ok-gain.ensures.gained)) in
-    let h : LeadsBack c.gain.new.engine.trail c.mark-mark.result c.gain.new.facts c.lesson_at.new.facts = c.in_ok-gain.ensures.keeps.back c.mark-mark.result c.lesson_at.new.facts (c.mark-mark.ensures.back c.lesson_at.new.facts) in
-    let same : c.lesson_at.new.facts ≡ c.args.facts.now = c.in_ok-lesson.ensures.same in
+    let l : IsJustified (net_of c.args.question.now.graph.now) c.args.question.now.fault c.args.depth (held_by c.args.facts.now) c.args.gate.0 c.in-Some.justified.value (map (λ n. n.0) c.in-Some.justified.drivers.items) c.in-Some.justified.found c.in-Some.justified.goods.items = (subst (Teaches (net_of c.args.question.now.graph.now) c.args.question.now.fault c.args.depth (held_by c.args.facts.now) c.args.gate.0) c.in-Some.is c.in_ok-justified.ensures.justified) in
+    let g : IsGained (net_of c.args.question.now.graph.now) c.args.question.now.fault c.in-Some.justified.goods.items c.args.facts.now false c.gain.new.facts =
+    subst (λ (f : List NodeFacts). IsGained (net_of c.args.question.now.graph.now) c.args.question.now.fault c.in-Some.justified.goods.items f false c.gain.new.facts) c.in_ok-justified.ensures.same
+    (subst (λ (goods : List GoodValue). IsGained (net_of c.args.question.now.graph.now) c.args.question.now.fault goods c.justified_at.new.facts false c.gain.new.facts) c.deref.ensures.value
+    (subst (λ (b : Bool). IsGained (net_of c.args.question.now.graph.now) c.args.question.now.fault c.deref.result.now c.justified_at.new.facts b c.gain.new.facts) c.if-branch.false c.in_ok-gain.ensures.gained)) in
+    let h : LeadsBack c.gain.new.engine.trail c.mark-mark.result c.gain.new.facts c.justified_at.new.facts = c.in_ok-gain.ensures.keeps.back c.mark-mark.result c.justified_at.new.facts (c.mark-mark.ensures.back c.justified_at.new.facts) in
+    let same : c.justified_at.new.facts ≡ c.args.facts.now = c.in_ok-justified.ensures.same in
     let added : AreAdded c.added_facts.result.now c.args.facts.now c.gain.new.facts =
     rw c.added_facts.ensures (subst (λ (f : List NodeFacts). AreAdded (drop c.mark-mark.result c.gain.new.engine.trail) f c.gain.new.facts) same
-    (trail_tells c.gain.new.engine.trail c.mark-mark.result c.gain.new.facts c.lesson_at.new.facts h)) in
-    known_more (net_of c.args.question.now.graph.now) c.args.question.now.fault (held_by c.args.facts.now) (held_by c.gain.new.facts) c.added_facts.result.now c.lesson_at.new.watch c.list_changed.new.self g.0 (subst (λ (f : List NodeFacts). IsWithin (held_by f) (held_by c.gain.new.facts)) same c.in_ok-gain.ensures.keeps.more) added.all c.list_changed.ensures.still c.list_changed.ensures.changed y
-    (known_longer (net_of c.args.question.now.graph.now) c.args.question.now.fault (held_by c.args.facts.now) c.args.watch.now c.lesson_at.new.watch c.in_ok-lesson.ensures.leaves y known)
+    (trail_tells c.gain.new.engine.trail c.mark-mark.result c.gain.new.facts c.justified_at.new.facts h)) in
+    known_more (net_of c.args.question.now.graph.now) c.args.question.now.fault (held_by c.args.facts.now) (held_by c.gain.new.facts) c.added_facts.result.now c.justified_at.new.watch c.list_changed.new.self g.0 (subst (λ (f : List NodeFacts). IsWithin (held_by f) (held_by c.gain.new.facts)) same c.in_ok-gain.ensures.keeps.more) added.all c.list_changed.ensures.still c.list_changed.ensures.changed y
+    (known_longer (net_of c.args.question.now.graph.now) c.args.question.now.fault (held_by c.args.facts.now) c.args.watch.now c.justified_at.new.watch c.in_ok-justified.ensures.leaves y known)
 
 pub visit-list_changed-requires : goal.visit-list_changed-requires
 visit-list_changed-requires t c =
-    room_leaves (net_of c.args.question.now.graph.now) c.args.watch.now c.lesson_at.new.watch c.in_ok-lesson.ensures.leaves c.requires.room
+    room_leaves (net_of c.args.question.now.graph.now) c.args.watch.now c.justified_at.new.watch c.in_ok-justified.ensures.leaves c.requires.room
 
-pub visit-returns-then-not-lesson-clause-lengthens : goal.visit-returns-then-not-lesson-clause-lengthens
-visit-returns-then-not-lesson-clause-lengthens t c =
-    lengthens_leaves c.args.watch.now c.lesson_at.new.watch c.in_ok-lesson.ensures.leaves
+pub visit-returns-then-not-justified-clause-lengthens : goal.visit-returns-then-not-justified-clause-lengthens
+visit-returns-then-not-justified-clause-lengthens t c =
+    lengthens_leaves c.args.watch.now c.justified_at.new.watch c.in_ok-justified.ensures.leaves
 
 pub visit-returns-then-branch-clause-lengthens : goal.visit-returns-then-branch-clause-lengthens
 visit-returns-then-branch-clause-lengthens t c =
-    lengthens_leaves c.args.watch.now c.lesson_at.new.watch c.in_ok-lesson.ensures.leaves
+    lengthens_leaves c.args.watch.now c.justified_at.new.watch c.in_ok-justified.ensures.leaves
 
 pub visit-returns-clause-lengthens : goal.visit-returns-clause-lengthens
 visit-returns-clause-lengthens t c =
-    lengthens_join c.args.watch.now c.lesson_at.new.watch c.list_changed.new.self (lengthens_leaves c.args.watch.now c.lesson_at.new.watch c.in_ok-lesson.ensures.leaves) (lengthens_still c.lesson_at.new.watch c.list_changed.new.self c.list_changed.ensures.still)
+    lengthens_join c.args.watch.now c.justified_at.new.watch c.list_changed.new.self (lengthens_leaves c.args.watch.now c.justified_at.new.watch c.in_ok-justified.ensures.leaves) (lengthens_still c.justified_at.new.watch c.list_changed.new.self c.list_changed.ensures.still)
 
 -- LESSON
 
-pub lesson_at-in_common-requires : goal.lesson_at-in_common-requires
-lesson_at-in_common-requires t c =
+pub justified_at-in_common-requires : goal.justified_at-in_common-requires
+justified_at-in_common-requires t c =
     let just : AreJustifications (net_of c.args.question.now.graph.now) (held_by c.args.facts.now) c.args.gate.0 (map (λ n. n.0) c.in-Some-2.drivers.items) = subst (λ (o : Option (Vec NodeId Global)). MatchOption o (HasFew (net_of c.args.question.now.graph.now) (held_by c.args.facts.now) c.args.gate.0 → ⊥) (λ v. AreJustifications (net_of c.args.question.now.graph.now) (held_by c.args.facts.now) c.args.gate.0 (map (λ n. n.0) v.items))) c.in-Some-2.is c.in_ok-drivers.ensures in
     let below : c.args.gate.0 < length (net_of c.args.question.now.graph.now).nodes = junction_below (net_of c.args.question.now.graph.now) c.args.gate.0 c.in-Some.value c.in-Some.ensures.0 in
     (search rules, (c.requires.numbers, (c.requires.size, (c.requires.settled, (c.requires.room, (c.requires.goods, (c.requires.watching, (c.requires.none, (omega (arith, c.requires.room.places), λ k d at. let one = just.each k d (rw c.deref.ensures.value at at) in (driver_live (net_of c.args.question.now.graph.now) c.well_formed-2.ensures.net c.args.gate.0 one.0.0 d one.0.1, one.1))))))))))
 
-pub lesson_at-returns-then-is_empty-2-clause-lesson : goal.lesson_at-returns-then-is_empty-2-clause-lesson
-lesson_at-returns-then-is_empty-2-clause-lesson t c =
+pub justified_at-returns-then-is_empty-2-clause-justified : goal.justified_at-returns-then-is_empty-2-clause-justified
+justified_at-returns-then-is_empty-2-clause-justified t c =
     let just : AreJustifications (net_of c.args.question.now.graph.now) (held_by c.args.facts.now) c.args.gate.0 (map (λ n. n.0) c.in-Some-2.drivers.items) = subst (λ (o : Option (Vec NodeId Global)). MatchOption o (HasFew (net_of c.args.question.now.graph.now) (held_by c.args.facts.now) c.args.gate.0 → ⊥) (λ v. AreJustifications (net_of c.args.question.now.graph.now) (held_by c.args.facts.now) c.args.gate.0 (map (λ n. n.0) v.items))) c.in-Some-2.is c.in_ok-drivers.ensures in
     let found : AreFound (net_of c.args.question.now.graph.now) c.args.question.now.fault c.args.depth (held_by c.args.facts.now) c.in-Some.value (map (λ n. n.0) c.in-Some-2.drivers.items) c.in_ok-common.common.found c.in_ok-common.common.goods.items = subst (λ (ds : List NodeId). AreFound (net_of c.args.question.now.graph.now) c.args.question.now.fault c.args.depth (held_by c.args.facts.now) c.in-Some.value (map (λ n. n.0) ds) c.in_ok-common.common.found c.in_ok-common.common.goods.items) c.deref.ensures.value c.in_ok-common.ensures.found in
     taught_nothing (net_of c.args.question.now.graph.now) c.args.question.now.fault c.args.depth (held_by c.args.facts.now) c.args.gate.0 c.in-Some.value (map (λ n. n.0) c.in-Some-2.drivers.items) c.in-Some.ensures.1.0 just (found.1.0 c.if-common.true (empty_is c.in_ok-common.common.goods c.if-is_empty-2.ensures))
 
-pub lesson_at-returns-then-is_empty-2-clause-stays : goal.lesson_at-returns-then-is_empty-2-clause-stays
-lesson_at-returns-then-is_empty-2-clause-stays t c e zero unknown =
+pub justified_at-returns-then-is_empty-2-clause-stays : goal.justified_at-returns-then-is_empty-2-clause-stays
+justified_at-returns-then-is_empty-2-clause-stays t c e zero unknown =
     let just : AreJustifications (net_of c.args.question.now.graph.now) (held_by c.args.facts.now) c.args.gate.0 (map (λ n. n.0) c.in-Some-2.drivers.items) = subst (λ (o : Option (Vec NodeId Global)). MatchOption o (HasFew (net_of c.args.question.now.graph.now) (held_by c.args.facts.now) c.args.gate.0 → ⊥) (λ v. AreJustifications (net_of c.args.question.now.graph.now) (held_by c.args.facts.now) c.args.gate.0 (map (λ n. n.0) v.items))) c.in-Some-2.is c.in_ok-drivers.ensures in
     let region : HasRegion (net_of c.args.question.now.graph.now) c.args.question.now.fault (held_by c.args.facts.now) c.in-Some.value (map (λ n. n.0) c.in-Some-2.drivers.items) c.in_common.new.watch.rests.entries c.args.gate.0 =
     subst (λ (ds : List NodeId). HasRegion (net_of c.args.question.now.graph.now) c.args.question.now.fault (held_by c.args.facts.now) c.in-Some.value (map (λ n. n.0) ds) c.in_common.new.watch.rests.entries c.args.gate.0) c.deref.ensures.value
     (c.in_ok-common.ensures.region c.if-common.true (empty_is c.in_ok-common.common.goods c.if-is_empty-2.ensures) zero unknown) in
     region_stays c.lines_are_local.ensures.local c.lines_are_local.ensures.first (net_of c.args.question.now.graph.now) c.args.question.now.fault (held_by c.args.facts.now) c.args.gate.0 c.in-Some.value (map (λ n. n.0) c.in-Some-2.drivers.items) c.in_common.new.watch.rests.entries c.requires.settled c.in-Some.ensures.1.0 just region
 
-pub lesson_at-returns-clause-lesson : goal.lesson_at-returns-clause-lesson
-lesson_at-returns-clause-lesson t c =
+pub justified_at-returns-clause-justified : goal.justified_at-returns-clause-justified
+justified_at-returns-clause-justified t c =
     let just : AreJustifications (net_of c.args.question.now.graph.now) (held_by c.args.facts.now) c.args.gate.0 (map (λ n. n.0) c.in-Some-2.drivers.items) = subst (λ (o : Option (Vec NodeId Global)). MatchOption o (HasFew (net_of c.args.question.now.graph.now) (held_by c.args.facts.now) c.args.gate.0 → ⊥) (λ v. AreJustifications (net_of c.args.question.now.graph.now) (held_by c.args.facts.now) c.args.gate.0 (map (λ n. n.0) v.items))) c.in-Some-2.is c.in_ok-drivers.ensures in
     let found : AreFound (net_of c.args.question.now.graph.now) c.args.question.now.fault c.args.depth (held_by c.args.facts.now) c.in-Some.value (map (λ n. n.0) c.in-Some-2.drivers.items) c.in_ok-common.common.found c.in_ok-common.common.goods.items = subst (λ (ds : List NodeId). AreFound (net_of c.args.question.now.graph.now) c.args.question.now.fault c.args.depth (held_by c.args.facts.now) c.in-Some.value (map (λ n. n.0) ds) c.in_ok-common.common.found c.in_ok-common.common.goods.items) c.deref.ensures.value c.in_ok-common.ensures.found in
-    lesson_of (net_of c.args.question.now.graph.now) c.args.question.now.fault c.args.depth (held_by c.args.facts.now) c.args.gate.0 c.in-Some.value (map (λ n. n.0) c.in-Some-2.drivers.items) c.in_ok-common.common.found c.in_ok-common.common.goods.items c.in-Some.ensures.0 c.in-Some.ensures.1.0 c.in-Some.ensures.1.1 just
+    justified_of (net_of c.args.question.now.graph.now) c.args.question.now.fault c.args.depth (held_by c.args.facts.now) c.args.gate.0 c.in-Some.value (map (λ n. n.0) c.in-Some-2.drivers.items) c.in_ok-common.common.found c.in_ok-common.common.goods.items c.in-Some.ensures.0 c.in-Some.ensures.1.0 c.in-Some.ensures.1.1 just
     (map_some (λ (n : NodeId). n.0) c.in-Some-2.drivers.items (full_is c.in-Some-2.drivers c.if-is_empty.ensures)) found
     (λ some. elim c.else-common.branch [
-      | lesson_at-else-common-via-then-common+else-is_empty-2 w ↦ full_is c.in_ok-common.common.goods w.if-is_empty-2.ensures
-      | lesson_at-else-common-via-else-common w ↦ absurd (true_false c.in_ok-common.common.found some w.if-common.false)
+      | justified_at-else-common-via-then-common+else-is_empty-2 w ↦ full_is c.in_ok-common.common.goods w.if-is_empty-2.ensures
+      | justified_at-else-common-via-else-common w ↦ absurd (true_false c.in_ok-common.common.found some w.if-common.false)
     ])
 
-pub lesson_at-returns-in_default-clause-stays : goal.lesson_at-returns-in_default-clause-stays
-lesson_at-returns-in_default-clause-stays t c e zero unknown =
+pub justified_at-returns-in_default-clause-stays : goal.justified_at-returns-in_default-clause-stays
+justified_at-returns-in_default-clause-stays t c e zero unknown =
     stays_idle (net_of c.args.question.now.graph.now) c.args.question.now.fault (held_by c.args.facts.now) c.args.watch.now.rests.entries c.args.gate.0 (λ value u few. c.in_default.ensures value u)
 
-pub lesson_at-returns-in_default-2-clause-stays : goal.lesson_at-returns-in_default-2-clause-stays
-lesson_at-returns-in_default-2-clause-stays t c e zero unknown =
+pub justified_at-returns-in_default-2-clause-stays : goal.justified_at-returns-in_default-2-clause-stays
+justified_at-returns-in_default-2-clause-stays t c e zero unknown =
     let many : HasFew (net_of c.args.question.now.graph.now) (held_by c.args.facts.now) c.args.gate.0 → ⊥ = subst (λ (o : Option (Vec NodeId Global)). MatchOption o (HasFew (net_of c.args.question.now.graph.now) (held_by c.args.facts.now) c.args.gate.0 → ⊥) (λ v. AreJustifications (net_of c.args.question.now.graph.now) (held_by c.args.facts.now) c.args.gate.0 (map (λ n. n.0) v.items))) c.in_default-2.is c.in_ok-drivers.ensures in
     stays_idle (net_of c.args.question.now.graph.now) c.args.question.now.fault (held_by c.args.facts.now) c.args.watch.now.rests.entries c.args.gate.0 (λ value u few. many few)
 

@@ -3,11 +3,11 @@ use Rattle.std.specs.Prelude.{slice_get}
 use Rattle.gate_graph.specs.Circuit.{net_of}
 use Rattle.recursive_learning.proofs.Holdings.{IsBefore}
 use Rattle.recursive_learning.proofs.Rounds.{Learning}
-use Rattle.recursive_learning.specs.Inner.Lessons.{AreCommon, IsRound}
+use Rattle.recursive_learning.specs.Inner.JustifiedValues.{AreCommon, IsRound}
 use Rattle.recursive_learning.specs.Watching.{LeavesList}
 use Rattle.recursive_learning.specs.Inner.Watching.{HasNoneListed, IsCovered, IsKnown, IsWatching, Lengthens, looks_left}
 use Rattle.recursive_learning.specs.Inner.Working.{AreSettled, Keeps}
-use Rattle.recursive_learning.specs.declared.lessons.Round.TheVariants.{Clash}
+use Rattle.recursive_learning.specs.declared.justified_values.Round.TheVariants.{Clash}
 use Rattle.refutation.specs.FactSets.{held_by, missing}
 use Rattle.recursive_learning.proofs.learning.+learning.Given as goal
 
@@ -20,8 +20,8 @@ decreases-one_more l = 10 * l.depth + 2
 abbrev pub decreases-in_common : goal.decreases-in_common
 decreases-in_common l = 10 * l.depth + 3
 
-abbrev pub decreases-lesson_at : goal.decreases-lesson_at
-decreases-lesson_at l = 10 * l.depth + 4
+abbrev pub decreases-justified_at : goal.decreases-justified_at
+decreases-justified_at l = 10 * l.depth + 4
 
 abbrev pub decreases-visit : goal.decreases-visit
 decreases-visit l = 10 * l.depth + 5

@@ -11,12 +11,12 @@ use Rattle.recursive_learning.proofs.Gains.{keeps_join}
 use Rattle.recursive_learning.proofs.Holdings.{goods_keep, goods_named}
 use Rattle.recursive_learning.proofs.Learns.{clashes_stay}
 use Rattle.recursive_learning.proofs.Rounds.{taken_back}
-use Rattle.recursive_learning.proofs.Splits.{beq_other, lesson_cases, lesson_opposite, may_split, no_driver, opposite_cases, split_told, told_ends}
+use Rattle.recursive_learning.proofs.Splits.{beq_other, justified_cases, justified_opposite, may_split, no_driver, opposite_cases, split_told, told_ends}
 use Rattle.recursive_learning.proofs.Vecs.{driver_at}
 use Rattle.recursive_learning.proofs.Watches.{blank_leaves, leaves_join, leaves_none, room_leaves}
 use Rattle.recursive_learning.proofs.Writes.{cases_more, going_ends, going_more, goods_more, pass_all, pass_fewer, pass_more, pass_none}
 use Rattle.recursive_learning.specs.Inner.Holding.{NamesAll}
-use Rattle.recursive_learning.specs.Inner.Lessons.{IsLesson, Teaches}
+use Rattle.recursive_learning.specs.Inner.JustifiedValues.{IsJustified, Teaches}
 use Rattle.recursive_learning.specs.Inner.Telling.{Ends, IsTold}
 use Rattle.recursive_learning.specs.Inner.Working.{AreSettled, Keeps}
 use Rattle.recursive_learning.specs.Inner.Writing.{IsPassed, IsWritten}
@@ -102,8 +102,8 @@ write_each-returns-clause-passed t c none = pass_all (net_of c.args.question.now
 
 pub write_gate-write_goods-requires : goal.write_gate-write_goods-requires
 write_gate-write_goods-requires t c =
-    let l : IsLesson (net_of c.args.question.now.graph.now) c.args.question.now.fault c.args.depth (held_by c.args.facts.now) c.args.gate.0 c.in-Some.lesson.value (map (λ n. n.0) c.in-Some.lesson.drivers.items) c.in-Some.lesson.found c.in-Some.lesson.goods.items = (subst (Teaches (net_of c.args.question.now.graph.now) c.args.question.now.fault c.args.depth (held_by c.args.facts.now) c.args.gate.0) c.in-Some.is c.in_ok-lesson.ensures.lesson) in
-    (search rules, (rw c.in_ok-lesson.ensures.keeps.numbers c.requires.numbers, (rw c.in_ok-lesson.ensures.keeps.size c.requires.size, (rw c.in_ok-lesson.ensures.same c.requires.settled, (room_leaves (net_of c.args.question.now.graph.now) c.args.watch.now c.lesson_at.new.watch c.in_ok-lesson.ensures.leaves c.requires.room, (goods_keep c.args.watch.now c.lesson_at.new.watch c.args.engine.now c.lesson_at.new.engine c.args.facts.now c.lesson_at.new.facts c.in_ok-lesson.ensures.leaves.first c.in_ok-lesson.ensures.keeps c.requires.goods, (blank_leaves c.args.watch.now c.lesson_at.new.watch c.in_ok-lesson.ensures.leaves c.requires.blank, ((c.args.gate.0, rw c.in_ok-lesson.ensures.same l), c.if-lesson.true))))))))
+    let l : IsJustified (net_of c.args.question.now.graph.now) c.args.question.now.fault c.args.depth (held_by c.args.facts.now) c.args.gate.0 c.in-Some.justified.value (map (λ n. n.0) c.in-Some.justified.drivers.items) c.in-Some.justified.found c.in-Some.justified.goods.items = (subst (Teaches (net_of c.args.question.now.graph.now) c.args.question.now.fault c.args.depth (held_by c.args.facts.now) c.args.gate.0) c.in-Some.is c.in_ok-justified.ensures.justified) in
+    (search rules, (rw c.in_ok-justified.ensures.keeps.numbers c.requires.numbers, (rw c.in_ok-justified.ensures.keeps.size c.requires.size, (rw c.in_ok-justified.ensures.same c.requires.settled, (room_leaves (net_of c.args.question.now.graph.now) c.args.watch.now c.justified_at.new.watch c.in_ok-justified.ensures.leaves c.requires.room, (goods_keep c.args.watch.now c.justified_at.new.watch c.args.engine.now c.justified_at.new.engine c.args.facts.now c.justified_at.new.facts c.in_ok-justified.ensures.leaves.first c.in_ok-justified.ensures.keeps c.requires.goods, (blank_leaves c.args.watch.now c.justified_at.new.watch c.in_ok-justified.ensures.leaves c.requires.blank, ((c.args.gate.0, rw c.in_ok-justified.ensures.same l), c.if-justified.true))))))))
 
 pub write_branches-write-requires : goal.write_branches-write-requires
 write_branches-write-requires t c =
@@ -112,25 +112,25 @@ write_branches-write-requires t c =
 
 pub write_gate-returns-clause-keeps : goal.write_gate-returns-clause-keeps
 write_gate-returns-clause-keeps t c =
-    keeps_join c.args.engine.now c.lesson_at.new.engine c.write_cases.new.engine c.args.facts.now c.lesson_at.new.facts c.write_cases.new.facts c.in_ok-lesson.ensures.keeps c.in_ok-write_cases.ensures.keeps
+    keeps_join c.args.engine.now c.justified_at.new.engine c.write_cases.new.engine c.args.facts.now c.justified_at.new.facts c.write_cases.new.facts c.in_ok-justified.ensures.keeps c.in_ok-write_cases.ensures.keeps
 
-pub write_gate-returns-then-lesson-clause-keeps : goal.write_gate-returns-then-lesson-clause-keeps
-write_gate-returns-then-lesson-clause-keeps t c =
-    keeps_join c.args.engine.now c.lesson_at.new.engine c.write_goods.new.engine c.args.facts.now c.lesson_at.new.facts c.write_goods.new.facts c.in_ok-lesson.ensures.keeps c.in_ok-ended.ensures.keeps
+pub write_gate-returns-then-justified-clause-keeps : goal.write_gate-returns-then-justified-clause-keeps
+write_gate-returns-then-justified-clause-keeps t c =
+    keeps_join c.args.engine.now c.justified_at.new.engine c.write_goods.new.engine c.args.facts.now c.justified_at.new.facts c.write_goods.new.facts c.in_ok-justified.ensures.keeps c.in_ok-ended.ensures.keeps
 
 pub write_gate-write_cases-requires : goal.write_gate-write_cases-requires
 write_gate-write_cases-requires t c =
-    let l : IsLesson (net_of c.args.question.now.graph.now) c.args.question.now.fault c.args.depth (held_by c.args.facts.now) c.args.gate.0 c.in-Some.lesson.value (map (λ n. n.0) c.in-Some.lesson.drivers.items) c.in-Some.lesson.found c.in-Some.lesson.goods.items = (subst (Teaches (net_of c.args.question.now.graph.now) c.args.question.now.fault c.args.depth (held_by c.args.facts.now) c.args.gate.0) c.in-Some.is c.in_ok-lesson.ensures.lesson) in (
+    let l : IsJustified (net_of c.args.question.now.graph.now) c.args.question.now.fault c.args.depth (held_by c.args.facts.now) c.args.gate.0 c.in-Some.justified.value (map (λ n. n.0) c.in-Some.justified.drivers.items) c.in-Some.justified.found c.in-Some.justified.goods.items = (subst (Teaches (net_of c.args.question.now.graph.now) c.args.question.now.fault c.args.depth (held_by c.args.facts.now) c.args.gate.0) c.in-Some.is c.in_ok-justified.ensures.justified) in (
       search rules,
       (
-        rw c.in_ok-lesson.ensures.keeps.numbers c.requires.numbers,
+        rw c.in_ok-justified.ensures.keeps.numbers c.requires.numbers,
         (
-          rw c.in_ok-lesson.ensures.keeps.size c.requires.size,
+          rw c.in_ok-justified.ensures.keeps.size c.requires.size,
           (
-            rw c.in_ok-lesson.ensures.same c.requires.settled,
+            rw c.in_ok-justified.ensures.same c.requires.settled,
             (
-              room_leaves (net_of c.args.question.now.graph.now) c.args.watch.now c.lesson_at.new.watch c.in_ok-lesson.ensures.leaves c.requires.room,
-              (goods_keep c.args.watch.now c.lesson_at.new.watch c.args.engine.now c.lesson_at.new.engine c.args.facts.now c.lesson_at.new.facts c.in_ok-lesson.ensures.leaves.first c.in_ok-lesson.ensures.keeps c.requires.goods, (blank_leaves c.args.watch.now c.lesson_at.new.watch c.in_ok-lesson.ensures.leaves c.requires.blank, rw (c.deref.ensures.value, c.in_ok-lesson.ensures.same) (lesson_cases (net_of c.args.question.now.graph.now) c.args.question.now.fault c.args.depth (held_by c.args.facts.now) c.args.gate.0 c.in-Some.lesson.value (map (λ n. n.0) c.in-Some.lesson.drivers.items) c.in-Some.lesson.found c.in-Some.lesson.goods.items l c.if-lesson.false))),
+              room_leaves (net_of c.args.question.now.graph.now) c.args.watch.now c.justified_at.new.watch c.in_ok-justified.ensures.leaves c.requires.room,
+              (goods_keep c.args.watch.now c.justified_at.new.watch c.args.engine.now c.justified_at.new.engine c.args.facts.now c.justified_at.new.facts c.in_ok-justified.ensures.leaves.first c.in_ok-justified.ensures.keeps c.requires.goods, (blank_leaves c.args.watch.now c.justified_at.new.watch c.in_ok-justified.ensures.leaves c.requires.blank, rw (c.deref.ensures.value, c.in_ok-justified.ensures.same) (justified_cases (net_of c.args.question.now.graph.now) c.args.question.now.fault c.args.depth (held_by c.args.facts.now) c.args.gate.0 c.in-Some.justified.value (map (λ n. n.0) c.in-Some.justified.drivers.items) c.in-Some.justified.found c.in-Some.justified.goods.items l c.if-justified.false))),
             ),
           ),
         ),
@@ -154,8 +154,8 @@ write_goods-write_good-requires t c =
                 (
                   blank_leaves c.args.watch.now c.loop-good.watch c.loop-good.invariant.leaves c.requires.blank,
                   (
-                    (c.requires.lesson.1.new c.requires.found c.loop-good.good-index (get_or c.args.lesson.now.goods.items c.loop-good.good-index (record { node = record { 0 = 0 }; value = false })) (slice_get-get_or c.args.lesson.now.goods.items c.loop-good.good-index (record { node = record { 0 = 0 }; value = false }) (omega (arith, ap length c.deref-good-items.ensures.value)))).live,
-                    lesson_opposite (net_of c.args.question.now.graph.now) c.args.question.now.fault c.args.depth (held_by c.args.facts.now) (held_by c.loop-good.facts) c.requires.lesson.0 c.args.lesson.now.value (map (λ n. n.0) c.args.lesson.now.drivers.items) c.args.lesson.now.found c.args.lesson.now.goods.items c.loop-good.good-index (get_or c.args.lesson.now.goods.items c.loop-good.good-index (record { node = record { 0 = 0 }; value = false })) c.requires.lesson.1 c.requires.found (slice_get-get_or c.args.lesson.now.goods.items c.loop-good.good-index (record { node = record { 0 = 0 }; value = false }) (omega (arith, ap length c.deref-good-items.ensures.value))) c.loop-good.invariant.writing.going.keeps.more c.loop-good.invariant.writing.going.settled.free,
+                    (c.requires.justified.1.new c.requires.found c.loop-good.good-index (get_or c.args.justified.now.goods.items c.loop-good.good-index (record { node = record { 0 = 0 }; value = false })) (slice_get-get_or c.args.justified.now.goods.items c.loop-good.good-index (record { node = record { 0 = 0 }; value = false }) (omega (arith, ap length c.deref-good-items.ensures.value)))).live,
+                    justified_opposite (net_of c.args.question.now.graph.now) c.args.question.now.fault c.args.depth (held_by c.args.facts.now) (held_by c.loop-good.facts) c.requires.justified.0 c.args.justified.now.value (map (λ n. n.0) c.args.justified.now.drivers.items) c.args.justified.now.found c.args.justified.now.goods.items c.loop-good.good-index (get_or c.args.justified.now.goods.items c.loop-good.good-index (record { node = record { 0 = 0 }; value = false })) c.requires.justified.1 c.requires.found (slice_get-get_or c.args.justified.now.goods.items c.loop-good.good-index (record { node = record { 0 = 0 }; value = false }) (omega (arith, ap length c.deref-good-items.ensures.value))) c.loop-good.invariant.writing.going.keeps.more c.loop-good.invariant.writing.going.settled.free,
                   ),
                 ),
               ),
@@ -167,9 +167,9 @@ write_goods-write_good-requires t c =
 
 pub write_goods-loop-good-preserved : goal.write_goods-loop-good-preserved
 write_goods-loop-good-preserved t c =
-    let fewer : known_good (held_by c.loop-good.facts) (get_or c.args.lesson.now.goods.items c.loop-good.good-index (record { node = record { 0 = 0 }; value = false })).node.0 ≡ None → missing c.write_good.new.facts < missing c.loop-good.facts = rw c.deref-good-items.ensures.value at (c.in_ok-write_good.ensures.fewer c.if-branch.false) in
+    let fewer : known_good (held_by c.loop-good.facts) (get_or c.args.justified.now.goods.items c.loop-good.good-index (record { node = record { 0 = 0 }; value = false })).node.0 ≡ None → missing c.write_good.new.facts < missing c.loop-good.facts = rw c.deref-good-items.ensures.value at (c.in_ok-write_good.ensures.fewer c.if-branch.false) in
     record {
-      writing = goods_more (net_of c.args.question.now.graph.now) c.args.question.now.fault c.loop-good.good-index c.args.engine.now c.loop-good.engine c.write_good.new.engine c.args.facts.now c.loop-good.facts c.write_good.new.facts c.args.tree.now c.loop-good.tree c.write_good.new.tree (get_or c.args.lesson.now.goods.items c.loop-good.good-index (record { node = record { 0 = 0 }; value = false })).node.0 c.loop-good.invariant.writing (c.requires.lesson.1.new c.requires.found c.loop-good.good-index (get_or c.args.lesson.now.goods.items c.loop-good.good-index (record { node = record { 0 = 0 }; value = false })) (slice_get-get_or c.args.lesson.now.goods.items c.loop-good.good-index (record { node = record { 0 = 0 }; value = false }) (omega (arith, ap length c.deref-good-items.ensures.value)))).unknown c.in_ok-write_good.ensures.keeps
+      writing = goods_more (net_of c.args.question.now.graph.now) c.args.question.now.fault c.loop-good.good-index c.args.engine.now c.loop-good.engine c.write_good.new.engine c.args.facts.now c.loop-good.facts c.write_good.new.facts c.args.tree.now c.loop-good.tree c.write_good.new.tree (get_or c.args.justified.now.goods.items c.loop-good.good-index (record { node = record { 0 = 0 }; value = false })).node.0 c.loop-good.invariant.writing (c.requires.justified.1.new c.requires.found c.loop-good.good-index (get_or c.args.justified.now.goods.items c.loop-good.good-index (record { node = record { 0 = 0 }; value = false })) (slice_get-get_or c.args.justified.now.goods.items c.loop-good.good-index (record { node = record { 0 = 0 }; value = false }) (omega (arith, ap length c.deref-good-items.ensures.value)))).unknown c.in_ok-write_good.ensures.keeps
           (subst (λ (b : Bool). IsTold (net_of c.args.question.now.graph.now) c.args.question.now.fault (held_by c.loop-good.facts) c.loop-good.tree b (held_by c.write_good.new.facts) c.write_good.new.tree) c.if-branch.false c.in_ok-write_good.ensures.told)
           (c.in_ok-write_good.ensures.less c.if-branch.false) fewer;
       leaves = leaves_join c.args.watch.now c.loop-good.watch c.write_good.new.watch c.loop-good.invariant.leaves c.in_ok-write_good.ensures.leaves;

@@ -1,4 +1,4 @@
-use Rattle.gate_looks.proofs.Public.{kind_is}
+use Rattle.local_evaluation.proofs.Public.{kind_is}
 use Rattle.std.proofs.Common.{refl, sym}
 use Rattle.gate_graph.specs.Circuit.{net_of}
 use Rattle.refutation.proofs.equal_lines.line_equal_forward.Goals as goal

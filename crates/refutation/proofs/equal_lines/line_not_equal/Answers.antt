@@ -1,5 +1,5 @@
 use Rattle.std.proofs.Common.{Some, rules, ap, refl, subst, sym, ◌∙◌}
-use Rattle.gate_looks.proofs.Public.{kind_is}
+use Rattle.local_evaluation.proofs.Public.{kind_is}
 use Rattle.gate_graph.specs.Circuit.{net_of}
 use Rattle.gate_net.specs.Net.{IsKind}
 use Rattle.gate_net.specs.declared.Kind.{Kind}

@@ -1,4 +1,4 @@
-use Rattle.gate_looks.proofs.Public.{kind_is}
+use Rattle.local_evaluation.proofs.Public.{kind_is}
 use Rattle.std.proofs.Common.{refl, subst, sym, ◌∙◌}
 use Rattle.gate_graph.specs.Circuit.{net_of}
 use Rattle.gate_net.proofs.Public.{constant_is}

@@ -1,4 +1,4 @@
-use Rattle.gate_looks.proofs.Public.{beq_same}
+use Rattle.local_evaluation.proofs.Public.{beq_same}
 use Rattle.gate_graph.specs.Circuit.{net_of}
 use Rattle.std.proofs.Common.{refl, ap}
 use Rattle.refutation.specs.FactSets.{held_by}

@@ -9,13 +9,13 @@ use Rattle.ternary_sim.specs.Inner.Tracking.{AreInside, first_marks, marks_befor
 
 abbrev pub invariant-loop-place : goal.invariant-loop-place
 invariant-loop-place l = record {
-  begun : (base : List (Option Bool)) → l.fn.sheet.marks ≡ map plain_marks base → HasBegun base l.sheet.marks l.agenda;
-  on : (k x : ℕ) → slice_get l.reached k ≡ Some x → l.count ≤ k + l.place → IsSeen l.agenda x;
-  only : (x : ℕ) → IsSeen l.agenda x → IsTouched (net_of l.graph) l.fn.gate.0 x;
-  before : marks_before l.sheet.marks l.trail.items ≡ marks_before l.fn.sheet.marks l.fn.trail.items;
-  first : first_marks l.sheet.marks l.trail.items ≡ first_marks l.fn.sheet.marks l.fn.trail.items;
-  inside : AreInside (length l.sheet.marks) l.trail.items;
-  size : length l.sheet.marks ≡ length l.fn.sheet.marks;
-  watched : l.sheet.watched ≡ l.fn.sheet.watched;
-  room : length l.agenda ≡ length l.fn.agenda;
+  begun : (base : List (Option Bool)) → l.fn.table.marks ≡ map plain_marks base → HasBegun base l.table.marks l.worklist;
+  on : (k x : ℕ) → slice_get l.reached k ≡ Some x → l.count ≤ k + l.place → IsSeen l.worklist x;
+  only : (x : ℕ) → IsSeen l.worklist x → IsTouched (net_of l.graph) l.fn.gate.0 x;
+  before : marks_before l.table.marks l.trail.items ≡ marks_before l.fn.table.marks l.fn.trail.items;
+  first : first_marks l.table.marks l.trail.items ≡ first_marks l.fn.table.marks l.fn.trail.items;
+  inside : AreInside (length l.table.marks) l.trail.items;
+  size : length l.table.marks ≡ length l.fn.table.marks;
+  watched : l.table.watched ≡ l.fn.table.watched;
+  room : length l.worklist ≡ length l.fn.worklist;
 }

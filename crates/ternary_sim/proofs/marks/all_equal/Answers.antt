@@ -1,6 +1,6 @@
 use Rattle.std.proofs.Common.{◌∙◌, ap, inl, inr, length, sym}
 use Rattle.rm_base.specs.declared.numbers.NodeId.{NodeId}
-use Rattle.gate_looks.proofs.Public.{yielded_at, yielded_more}
+use Rattle.local_evaluation.proofs.Public.{yielded_at, yielded_more}
 use Rattle.ternary_sim.specs.Marks.{equal_at}
 use Rattle.ternary_sim.proofs.Loops.{list_all_fails, list_all_holds, whole}
 use Rattle.ternary_sim.proofs.marks.all_equal.Goals as goal

@@ -1,7 +1,7 @@
 use Rattle.std.proofs.Common.{map, ◌∙◌}
 use Rattle.gate_graph.specs.Circuit.{net_of}
-use Rattle.gate_looks.specs.Pins.{with_stuck}
-use Rattle.gate_looks.proofs.Public.{kind_is}
+use Rattle.local_evaluation.specs.Pins.{with_stuck}
+use Rattle.local_evaluation.proofs.Public.{kind_is}
 use Rattle.ternary_sim.proofs.Loops.{own_forward}
 use Rattle.ternary_sim.proofs.reading.node_value.Goals as goal
 use Rattle.ternary_sim.specs.Marks.{known_source}

@@ -1,6 +1,6 @@
 use Rattle.std.proofs.Common.{◌<◌, ◌∙◌, length-set, List, subst, get_or, sym, arith}
 use Rattle.gate_graph.specs.Circuit.{net_of}
-use Rattle.gate_looks.specs.Pins.{AreBelow}
+use Rattle.local_evaluation.specs.Pins.{AreBelow}
 use Rattle.gate_net.specs.Net.{drivers_of}
 use Rattle.std.proofs.Common.{length}
 use Rattle.ternary_sim.specs.declared.marks.NodeMarks.{NodeMarks}

@@ -2,7 +2,7 @@ use Rattle.std.proofs.Common.{List, ap, arith, length, subst, sym, ℕ, ◌<◌,
 use Rattle.std.specs.Prelude.{slice_get}
 use Rattle.gate_graph.specs.Circuit.{net_of}
 use Rattle.gate_net.specs.Net.{Reads, drivers_of}
-use Rattle.gate_looks.proofs.Public.{yielded_all, yielded_at, yielded_more}
+use Rattle.local_evaluation.proofs.Public.{yielded_all, yielded_at, yielded_more}
 use Rattle.rm_base.specs.declared.numbers.NodeId.{NodeId}
 use Rattle.ternary_sim.proofs.Spreading.{more_done, more_next, one_longer}
 use Rattle.ternary_sim.proofs.region.mark_drivers.Goals as goal

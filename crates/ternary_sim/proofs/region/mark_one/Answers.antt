@@ -1,5 +1,5 @@
 use Rattle.std.proofs.Common.{true, ◌≡◌}
-use Rattle.gate_looks.proofs.Public.{not_seen}
+use Rattle.local_evaluation.proofs.Public.{not_seen}
 use Rattle.ternary_sim.proofs.Spreading.{more_one}
 use Rattle.ternary_sim.proofs.region.mark_one.Goals as goal
 

@@ -1,6 +1,6 @@
 use Rattle.std.proofs.Common.{ap, false, length, length-set, replicate, sym, ◌∙◌, ◌≡◌}
 use Rattle.gate_graph.specs.Circuit.{net_of}
-use Rattle.gate_looks.proofs.Public.{none_marked, search_less}
+use Rattle.local_evaluation.proofs.Public.{none_marked, search_less}
 use Rattle.ternary_sim.proofs.Spreading.{concerned_live, spread_ends, spread_more}
 use Rattle.ternary_sim.proofs.region.mark_region.Goals as goal
 

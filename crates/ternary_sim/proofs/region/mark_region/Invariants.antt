@@ -1,6 +1,6 @@
 use Rattle.std.proofs.Common.{length, ◌≡◌}
 use Rattle.gate_graph.specs.Circuit.{net_of}
-use Rattle.gate_looks.specs.Reaching.{search_left}
+use Rattle.local_evaluation.specs.Reaching.{search_left}
 use Rattle.ternary_sim.proofs.Spreading.{Spreads}
 use Rattle.ternary_sim.proofs.region.mark_region.Given as goal
 

@@ -1,6 +1,6 @@
 use Rattle.std.proofs.Common.{arith, length, ◌<◌}
 use Rattle.gate_graph.specs.Circuit.{net_of}
-use Rattle.gate_looks.proofs.Public.{kind_live, reached_live}
+use Rattle.local_evaluation.proofs.Public.{kind_live, reached_live}
 use Rattle.ternary_sim.proofs.region.mark_touched.Goals as goal
 
 pub mark_all-requires-clause-marks : goal.mark_all-requires-clause-marks

@@ -4,10 +4,10 @@ use Rattle.ternary_sim.specs.Inner.Tracking.{AreInside, first_marks}
 
 abbrev pub invariant-loop-entry : goal.invariant-loop-entry
 invariant-loop-entry l = record {
-  first : first_marks l.sheet.marks l.trail.items ≡ first_marks l.initial.sheet.marks l.initial.trail.items;
-  inside : AreInside (length l.sheet.marks) l.trail.items;
-  size : length l.sheet.marks ≡ length l.initial.sheet.marks;
-  watched : l.sheet.watched ≡ l.initial.sheet.watched;
+  first : first_marks l.table.marks l.trail.items ≡ first_marks l.initial.table.marks l.initial.trail.items;
+  inside : AreInside (length l.table.marks) l.trail.items;
+  size : length l.table.marks ≡ length l.initial.table.marks;
+  watched : l.table.watched ≡ l.initial.table.watched;
 }
 
 abbrev pub decreases-loop-entry : goal.decreases-loop-entry

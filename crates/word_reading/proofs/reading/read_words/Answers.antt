@@ -8,8 +8,8 @@ use Rattle.clap.specs.Matches.{found_of}
 use Rattle.word_reading.specs.Inner.Judged.{accepted}
 use Rattle.word_reading.specs.Words.{Asked, asked}
 use Rattle.word_reading.specs.declared.command.Command.{Command}
-use Rattle.word_reading.specs.declared.command.WordFault.{WordFault}
-use Rattle.word_reading.specs.declared.command.WordFault.TheVariants.{Refused}
+use Rattle.word_reading.specs.declared.command.UsageError.{UsageError}
+use Rattle.word_reading.specs.declared.command.UsageError.TheVariants.{Refused}
 use Rattle.std.proofs.lemmas.Result.{IfOk-weaker}
 use Rattle.word_reading.proofs.Agrees.{agrees}
 use Rattle.word_reading.proofs.Ranges.{asked_is_sound}
@@ -25,7 +25,7 @@ when_read : (o : Option Asked) (r : Option Command) → o ≡ option_map asked_o
 when_read o (Some c) e = e
 when_read o None e = tt
 
-when_refused : (o : Option Asked) (r : Option Command) → o ≡ option_map asked_of r → IfErr (ok_or r Refused) (λ (e : WordFault). e ≡ Refused → o ≡ None)
+when_refused : (o : Option Asked) (r : Option Command) → o ≡ option_map asked_of r → IfErr (ok_or r Refused) (λ (e : UsageError). e ≡ Refused → o ≡ None)
 when_refused o (Some c) e = tt
 when_refused o None e = λ r. e
 

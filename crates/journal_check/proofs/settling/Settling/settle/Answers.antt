@@ -1,7 +1,7 @@
 use Rattle.std.proofs.Common.{subst, sym}
 use Rattle.gate_graph.specs.Circuit.{net_of}
 use Rattle.journal_text.specs.declared.record.Record.{Record}
-use Rattle.journal_check.specs.Inner.Benches.{VerdictSays, left_of}
+use Rattle.journal_check.specs.Inner.ReplayStates.{VerdictSays, left_of}
 use Rattle.journal_check.proofs.settling.Settling.settle.Goals as goal
 
 pub returns-in-Hit-clause-says : goal.returns-in-Hit-clause-says

@@ -1,7 +1,7 @@
 use Rattle.std.proofs.Common.{ap, subst}
 use Rattle.gate_graph.specs.Circuit.{Circuit, net_of}
 use Rattle.recursive_learning.specs.Serving.{IsServing}
-use Rattle.merging.proofs.Noting.{same_back}
+use Rattle.changed_nodes.proofs.Public.{same_back}
 use Rattle.merging.proofs.space.Space.follow_back.Goals as goal
 
 pub follow-requires : goal.follow-requires

@@ -2,4 +2,4 @@ use Rattle.fault_sim.specs.Words.{assignment}
 use Rattle.rar_loop.proofs.vectors.Vectors.complete.Goals as goal
 
 pub returns-clause-detected : goal.returns-clause-detected
-returns-clause-detected c = λ _. (assignment c.simulate64.new.self.words c.in-Some._lane, c.in-Some.ensures.first.1)
+returns-clause-detected c = λ _. (assignment c.in_ok-words.words.items c.in_default.lane, cc)

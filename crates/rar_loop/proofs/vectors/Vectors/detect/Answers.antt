@@ -7,7 +7,7 @@ use Rattle.rar_loop.proofs.vectors.Vectors.detect.Goals as goal
 pub returns-then-any-clause-detected : goal.returns-then-any-clause-detected
 returns-then-any-clause-detected c = λ some.
     let lane = c.any.ensures c.if-any.true in
-    (assignment c.args.self.now.lanes.words lane.0, (c.detect.ensures.detects lane.0 lane.1.0).0 lane.1.1)
+    (assignment c.args.self.now.lanes.words lane.0, (c.detect_sharing.ensures.detects lane.0 lane.1.0).0 lane.1.1)
 
 pub returns-in-Some-clause-detected : goal.returns-in-Some-clause-detected
 returns-in-Some-clause-detected c = λ some.

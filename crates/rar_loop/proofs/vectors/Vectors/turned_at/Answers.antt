@@ -10,4 +10,4 @@ returns-in-Some-clause-turned c i h t =
 
 pub returns-clause-vectors : goal.returns-clause-vectors
 returns-clause-vectors c =
-    for_more (net_of c.args.graph.now) c.args.self.now _ c.args.gate.0 c.turned_by-word.result c.requires.vectors c.turned_by-word.ensures.same refl (c.keep.ensures.listed c.requires.vectors.listed) c.turned_by-word.ensures.turned c.keep.ensures.kept
+    for_more (net_of c.args.graph.now) c.args.self.now _ c.args.gate.0 c.turned_by-word.result c.requires.vectors c.turned_by-word.ensures.same c.turned_by-word.ensures.right refl refl (c.keep.ensures.listed c.requires.vectors.listed) c.turned_by-word.ensures.turned c.keep.ensures.kept

@@ -3,8 +3,9 @@ use Rattle.rm_base.specs.declared.numbers.NodeId.{NodeId}
 use Rattle.gate_net.specs.Net.{IsWellFormed, Net, source_count}
 use Rattle.gate_graph.specs.Circuit.{Circuit, net_of}
 use Rattle.fault_sim.specs.Following.{DiffersAmong}
-use Rattle.rar_loop.specs.Inner.Changing.{AreNoted, ListsNoted}
-use Rattle.rar_loop.proofs.Noting.{differs_listed, same_through, touches_then}
+use Rattle.changed_nodes.specs.Changing.{AreNoted, ListsNoted}
+use Rattle.changed_nodes.proofs.Public.{same_through}
+use Rattle.rar_loop.proofs.Differing.{differs_listed, touches_then}
 use Rattle.rar_loop.proofs.workspace.Workspace.follow.Goals as goal
 use Rattle.wire_edit.proofs.Public.{tidy_reads_none}
 use Rattle.rm_base.specs.Numbers.{numbers_of}

@@ -1,6 +1,6 @@
 use Rattle.std.proofs.Common.{ap}
 use Rattle.gate_graph.specs.Circuit.{Circuit, net_of}
-use Rattle.rar_loop.proofs.Noting.{same_back}
+use Rattle.changed_nodes.proofs.Public.{same_back}
 use Rattle.rar_loop.proofs.workspace.Workspace.follow_back.Goals as goal
 
 pub follow-requires-2 : goal.follow-requires-2

@@ -1,4 +1,4 @@
-use Rattle.gate_looks.proofs.Public.{unreached}
+use Rattle.local_evaluation.proofs.Public.{unreached}
 use Rattle.std.proofs.Common.{sym}
 use Rattle.gate_graph.specs.Circuit.{net_of}
 use Rattle.refutation.proofs.asking.AskedSite.is_reached.Goals as goal

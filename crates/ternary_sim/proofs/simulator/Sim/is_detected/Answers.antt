@@ -3,7 +3,7 @@ use Rattle.std.specs.Prelude.{slice_get}
 use Rattle.rm_base.specs.declared.numbers.NodeId.{NodeId}
 use Rattle.gate_net.specs.Forward.{both_known_different}
 use Rattle.gate_graph.specs.Circuit.{net_of}
-use Rattle.gate_looks.proofs.Public.{yielded_at, yielded_more}
+use Rattle.local_evaluation.proofs.Public.{yielded_at, yielded_more}
 use Rattle.ternary_sim.specs.Marks.{good_at, faulty_at}
 use Rattle.ternary_sim.proofs.Loops.{whole, each_yielded}
 use Rattle.ternary_sim.proofs.simulator.Sim.is_detected.Goals as goal

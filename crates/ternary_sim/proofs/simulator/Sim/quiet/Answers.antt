@@ -2,7 +2,7 @@ use Rattle.std.proofs.Common.{◌≡◌, ◌∙◌, ℕ, ap, inl, inr, length, r
 use Rattle.std.specs.Prelude.{slice_get}
 use Rattle.rm_base.specs.declared.numbers.NodeId.{NodeId}
 use Rattle.gate_graph.specs.Circuit.{net_of}
-use Rattle.gate_looks.proofs.Public.{yielded_at, yielded_more}
+use Rattle.local_evaluation.proofs.Public.{yielded_at, yielded_more}
 use Rattle.ternary_sim.specs.Marks.{equal_at}
 use Rattle.ternary_sim.proofs.Loops.{whole, each_yielded}
 use Rattle.ternary_sim.proofs.simulator.Sim.quiet.Goals as goal

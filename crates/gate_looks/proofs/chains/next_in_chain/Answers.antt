@@ -1,7 +1,0 @@
-use Rattle.std.proofs.Common.{◌≡◌, true}
-use Rattle.gate_graph.specs.Circuit.{net_of}
-use Rattle.gate_looks.proofs.OnlyReaders.{next_found}
-use Rattle.gate_looks.proofs.chains.next_in_chain.Goals as goal
-
-pub returns : goal.returns
-returns c = next_found (net_of c.args.graph.now) c.args.node.0 c.only_reader.result c.only_reader.ensures (λ observed. let wrong : c.is_observed.result ≡ true = c.is_observed.ensures.1 observed in cc)

@@ -1,0 +1,12 @@
+pub mod Told
+pub mod Looks
+pub mod Parities
+pub mod Walks
+pub mod Yielding
+pub mod PinWalks
+pub mod OnlyReaders
+pub mod Worklists
+pub mod Readers
+pub mod Reaches
+pub mod Sites
+pub mod Public

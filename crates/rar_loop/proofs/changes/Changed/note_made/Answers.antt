@@ -1,5 +1,0 @@
-use Rattle.rar_loop.proofs.Noting.{notes_made, on_ok}
-use Rattle.rar_loop.proofs.changes.Changed.note_made.Goals as goal
-
-pub returns : goal.returns
-returns c = on_ok c.note_gate.result _ _ (λ listed net after differs. notes_made net after c.args.gate.0 c.args.self.now c.note_gate.new.self listed c.note_gate.ensures.homes differs) c.note_gate.ensures.gates

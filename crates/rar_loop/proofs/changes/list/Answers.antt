@@ -1,5 +1,0 @@
-use Rattle.rar_loop.proofs.Noting.{listed_last}
-use Rattle.rar_loop.proofs.changes.list.Goals as goal
-
-pub returns : goal.returns
-returns c = listed_last c.args.nodes.now.items c.args.node c.push.new.self.items c.in_ok-push.ensures.items
