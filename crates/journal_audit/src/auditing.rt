@@ -19,30 +19,12 @@ use crate::compare::difference;
 use crate::problem::AuditProblem;
 use crate::reading::journal_net;
 use crate::verdicts::Verdicts;
-use blif_writer::write_model;
 use gate_graph::Graph;
-use graph_to_model::model_of_tidy;
 use journal_check::accepted_stand;
-use rm_base::{NoMemory, Shelf};
+use net_writer::net_text;
+use rm_base::Shelf;
 use rm_model::{NameKeys, RankedModel};
 use std::alloc::Global;
-
-/// The text of the model that stands for a net.
-pub fn net_text(
-    alloc: Global,
-    keys: NameKeys,
-    graph: &Graph,
-    model: &RankedModel,
-) -> Result<Vec<u8>, NoMemory>
-    requires formed { IsWellFormed model.now }
-    requires fits { Fits (net_of graph.now) model.now }
-    ensures text { IfOk result (λ text. text.items ≡ model_text (model_of_net model.now (net_of graph.now))) }
-    ensures few { OnOk result (AreFew (net_of graph.now) model.now) }
-{
-    let made = model_of_tidy(alloc, keys, graph, model.model())?;
-    let text = write_model(alloc, &made)?;
-    Ok(text)
-}
 
 // Whether the output is the text.
 fn compare_output<S: Shelf>(shelf: &mut S, output: &str, text: &[u8]) -> Result<(), AuditProblem>

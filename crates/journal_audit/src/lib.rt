@@ -13,7 +13,7 @@ mod stage;
 mod tally;
 mod verdicts;
 
-pub use auditing::{Audited, audit, audit_verdicts, net_text};
+pub use auditing::{Audited, audit, audit_verdicts};
 pub use laws::{long_journals_tell, problems_exclude};
 pub use lines::{fault_line, netlist_line, refusal_line};
 pub use problem::AuditProblem;

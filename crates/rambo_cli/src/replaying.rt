@@ -18,7 +18,7 @@ use crate::problem::Problem;
 use crate::reading::read_input;
 use accepted_steps::{Stop, accepted_steps};
 use cover_decompose::{decompositions_are_formed, decompositions_stand};
-use journal_audit::net_text;
+use net_writer::net_text;
 use rm_base::Shelf;
 use rm_model::{NameKeys, RankedModel};
 use std::alloc::Global;

@@ -1,5 +1,5 @@
 -- Vectors that are kept for a net.
-use Rattle.std.specs.Prelude.{◌≡◌, ◌<◌, ◌⊎◌, ℕ, Bool, IfSome, Unit, true, false, not, IsTrue, List, Option, Some, bit_xor, slice_get, if◌then◌else◌}
+use Rattle.std.specs.Prelude.{◌≡◌, ◌<◌, ◌⊎◌, ℕ, Bool, IfSome, true, false, not, IsTrue, List, Option, Some, bit_xor, slice_get, if◌then◌else◌}
 use Rattle.gate_net.specs.Net.{Net}
 use Rattle.gate_net.specs.Values.{Detects, HasPin}
 use Rattle.fault_sim.specs.BlockStates.{AreSimulated}

@@ -8,7 +8,7 @@ use Rattle.gate_graph.specs.Circuit.{net_of}
 use Rattle.graph_to_model.specs.Fits.{Fits}
 use Rattle.graph_to_model.specs.Laws.{AreFew}
 use Rattle.graph_to_model.specs.NetModel.{model_of_net}
-use Rattle.journal_audit.proofs.auditing.net_text.Goals as goal
+use Rattle.net_writer.proofs.net_text.Goals as goal
 
 pub model_of_tidy-requires-clause-formed : goal.model_of_tidy-requires-clause-formed
 model_of_tidy-requires-clause-formed c = subst IsWellFormed (sym c.model.ensures) c.requires.formed
