@@ -1,8 +1,8 @@
 -- What kept vectors tell of a candidate: with its wire in the net one of them detects the fault of the wire's pin, which then
 -- has a set of facts closed at every depth.
-use Rattle.std.proofs.Common.{◌≡◌, ◌≢◌, ◌≤◌, ◌++◌, length, arith, ℕ, zero, suc, ◌<◌, ◌^◌, ◌⊎◌, inl, inr, Bool, true, false, not, IsTrue, Option, Some, None, List, [], ◌∷◌, replicate, refl, sym, ◌∙◌, ap, subst, w64}
+use Rattle.std.proofs.Common.{◌≡◌, ◌≢◌, ◌≤◌, ◌++◌, length, arith, ℕ, zero, suc, ◌<◌, ◌^◌, ◌⊎◌, inl, inr, Bool, true, false, not, IsTrue, Option, Some, None, List, [], ◌∷◌, replicate, refl, sym, ◌∙◌, ap, subst, w64, Result, Ok, Err}
 use Rattle.std.specs.Int.{trailing_zeros}
-use Rattle.std.specs.Prelude.{IfSome, bit_and, slice_get, slice_index, slice_set, if◌then◌else◌}
+use Rattle.std.specs.Prelude.{IfSome, OnOk, bit_and, slice_get, slice_index, slice_set, if◌then◌else◌}
 use Rattle.rm_base.specs.declared.numbers.NodeId.{NodeId}
 use Rattle.gate_net.specs.Net.{Net, drivers_of, IsWellFormed}
 use Rattle.gate_net.specs.Values.{Detects, HasPin}
@@ -88,6 +88,24 @@ for_more net v w gate word for same noted found seeker listed here kept = record
   found = subst (λ (s : BlockState). AreSimulated s net) (sym found) for.found;
   seeks = subst (λ (s : Option Seeker). IfSome s (Seeks net)) (sym seeker) for.seeks;
 }
+
+-- whatever is noted and hinted at of the same vectors
+pub for_noted : (net : Net) (v w : Vectors) → AreFor v net → w.lanes ≡ v.lanes → AreObservabilities w.notes net v.lanes.words → w.found ≡ v.found → w.turned ≡ v.turned → w.asked ≡ v.asked → w.seeker ≡ v.seeker → AreFor w net
+for_noted net v w for same noted found turned asked seeker =
+    let was : AreTurned net w.lanes.words v.turned.items = subst (λ (s : LaneState). AreTurned net s.words v.turned.items) (sym same) for.turned in
+    record {
+      fits = subst (λ (s : LaneState). Fits s net) (sym same) for.fits;
+      simulated = subst (λ (s : LaneState). IsSimulated s net) (sym same) for.simulated;
+      noted = subst (λ (s : LaneState). AreObservabilities w.notes net s.words) (sym same) noted;
+      turned = rw turned was;
+      listed = rw (turned, asked) for.listed;
+      found = subst (λ (s : BlockState). AreSimulated s net) (sym found) for.found;
+      seeks = subst (λ (s : Option Seeker). IfSome s (Seeks net)) (sym seeker) for.seeks;
+    }
+
+pub on_ok : {A E : Type 0} (r : Result A E) (P Q : Type 0) → (P → Q) → OnOk r P → OnOk r Q
+on_ok (Ok a) P Q f p = f p
+on_ok (Err e) P Q f p = tt
 
 -- WHAT IS FORGOTTEN
 asked_before : (ns : List NodeId) (n : NodeId) (y k : ℕ) → slice_get (numbers_of (ns ++ n ∷ [])) k ≡ Some y → y ≢ n.0 → (j : ℕ) × (slice_get (numbers_of ns) j ≡ Some y)

@@ -3,7 +3,7 @@ use Rattle.gate_graph.specs.Circuit.{net_of}
 use Rattle.rar_loop.proofs.Filtering.{pin_of, zero_has_none}
 use Rattle.rar_loop.proofs.vectors.turned_by.Goals as goal
 
-pub invariant_of-detect_sharing : goal.invariant_of-detect
+pub invariant_of-detect_sharing : goal.invariant_of-detect_sharing
 invariant_of-detect_sharing c = record { pin = pin_of (net_of c.args.graph.now) c.args.gate c.in-Some-driver._driver c.in-Some.control c.in-Some-driver.ensures }
 
 pub returns-in_default-clause-turned : goal.returns-in_default-clause-turned

@@ -1,4 +1,4 @@
-use Rattle.std.proofs.Common.{tt, List, Option, ℕ, sym, ◌∙◌, ap, slice_get}
+use Rattle.std.proofs.Common.{List, Option, ℕ, sym, ◌∙◌, ap, slice_get}
 use Rattle.gate_graph.specs.Circuit.{net_of}
 use Rattle.rar_loop.proofs.Filtering.{none_kept}
 use Rattle.rar_loop.proofs.vectors.Vectors.draw_for.Goals as goal
