@@ -115,7 +115,11 @@ fn tells<R: Threads + Sync>(
     Ok(ran && are_texts(&shelf, [input, care, told.output, told.tests]))
 }
 
-fn tell_all<R: Threads + Sync>(rt: &R, alloc: Global, before: [&'static str; 2]) -> Result<(), Fail> {
+fn tell_all<R: Threads + Sync>(
+    rt: &R,
+    alloc: Global,
+    before: [&'static str; 2],
+) -> Result<(), Fail> {
     for told in TOLD {
         if !tells(rt, alloc, told, before)? {
             return Err(Fail::new(format_args!("{}: {}", told.line, told.put)));

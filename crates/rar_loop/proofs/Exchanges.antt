@@ -11,14 +11,13 @@ use Rattle.rar_loop.specs.Inner.Going.{Tallies}
 use Rattle.wire_edit.specs.Order.{IsTidy}
 use Rattle.wire_edit.specs.Refusals.{live_count}
 use Rattle.wire_edit.specs.Tried.{Tried}
-use Rattle.candidate_wires.specs.Additions.{additions}
 use Rattle.candidate_wires.specs.declared.candidate.Pair.{Pair}
 use Rattle.journal_text.specs.Accepted.{AcceptedStepsKeep}
 use Rattle.journal_text.specs.declared.record.Record.{Record}
 use Rattle.journal_text.specs.Runs.{AcceptedTo, steps_of}
 use Rattle.wire_edit.proofs.Public.{live_bound}
 use Rattle.rar_loop.specs.Perturbed.{IsExchange}
-use Rattle.rar_loop.specs.Sizes.{IsSame, IsWithin, most_steps}
+use Rattle.rar_loop.specs.Sizes.{IsSame, most_steps}
 use Rattle.rar_loop.specs.Trying.{IsLent}
 use Rattle.rar_loop.specs.Inner.Exchanging.{HasNumbers, IsExchanged}
 use Rattle.rar_loop.specs.Inner.Trying.{IsReplaced}

@@ -1,8 +1,7 @@
 -- Going on inside a trial, step by step.
 use Rattle.std.proofs.Common.{◌≡◌, ℕ, ◌+◌, ◌-◌, ◌<◌, ◌≤◌, Bool, true, false, Option, Some, None, List, [], ◌∷◌, ◌++◌, length, refl, sym, ◌∙◌, ap, subst, append_assoc, arith}
-use Rattle.std.specs.Prelude.{Ok, nat_lt, if◌then◌else◌}
-use Rattle.gate_net.specs.Values.{same_bool}
-use Rattle.gate_net.specs.Edits.{constant_node, fixed}
+use Rattle.std.specs.Prelude.{Ok, nat_lt}
+use Rattle.gate_net.specs.Edits.{fixed}
 use Rattle.wire_edit.specs.Changes.{Change}
 use Rattle.wire_edit.specs.Inner.Changes.{nodes_added}
 use Rattle.std.proofs.lemmas.Bool.{lt-ltb}
@@ -19,7 +18,7 @@ use Rattle.wire_edit.specs.declared.steps.Step.{Step}
 use Rattle.wire_edit.specs.declared.steps.Step.TheVariants.{Add, Fix, NewNot, Const, Same, NoPins, OnePin, Twice, Twin, Dead}
 use Rattle.wire_edit.specs.declared.refusal.EditRefusal.{EditRefusal}
 use Rattle.wire_edit.specs.declared.room.Room.{Room}
-use Rattle.wire_edit.specs.Tests.{is_live, is_xor, control_of, constant_at, family_of}
+use Rattle.wire_edit.specs.Tests.{is_live, is_xor, constant_at, family_of}
 use Rattle.wire_edit.specs.Steps.{Applies, stepped, change_of, other_driver, same_change}
 use Rattle.wire_edit.specs.Refusals.{refusal_of, room_after, IsAnswer}
 use Rattle.wire_edit.specs.Laws.{IsTidying}

@@ -1,4 +1,4 @@
-use Rattle.std.proofs.Common.{◌≡◌, ◌<◌, Some, length, refl, sym, subst, arith}
+use Rattle.std.proofs.Common.{◌≡◌, ◌<◌, Some, length, sym, subst, arith}
 use Rattle.std.specs.Prelude.{slice_get}
 use Rattle.gate_net.specs.Net.{Net}
 use Rattle.gate_graph.specs.Circuit.{Circuit, net_of}
@@ -6,8 +6,7 @@ use Rattle.candidate_wires.specs.Candidates.{AreCandidatesOf}
 use Rattle.candidate_wires.specs.Pairs.{paired}
 use Rattle.recursive_learning.specs.Serving.{IsServing}
 use Rattle.rar_loop.specs.Inner.Trying.{MayTry}
-use Rattle.rar_loop.proofs.Exchanges.{exchanged_back}
-use Rattle.rar_loop.proofs.Pairing.{candidates_may, back_none, back_then}
+use Rattle.rar_loop.proofs.Pairing.{candidates_may, back_none}
 use Rattle.rar_loop.proofs.Spacing.{ready_still}
 use Rattle.rar_loop.proofs.exchanging.exchange_target.Goals as goal
 use Rattle.rm_base.proofs.Public.{read_stands}

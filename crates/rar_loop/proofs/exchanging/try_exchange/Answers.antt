@@ -1,12 +1,9 @@
-use Rattle.std.proofs.Common.{◌≡◌, ◌<◌, ◌≤◌, Bool, true, false, List, [], length, refl, sym, ◌∙◌, ap, subst, arith}
+use Rattle.std.proofs.Common.{◌≡◌, Bool, true, false, [], refl, sym, ◌∙◌, ap, subst, arith}
 use Rattle.std.specs.Prelude.{if◌then◌else◌, nat_lt, ◌||◌}
 use Rattle.gate_net.specs.Edits.{IsSameBut}
 use Rattle.gate_net.specs.Net.{Net, IsWellFormed, gate_count, wire_count}
-use Rattle.gate_graph.specs.Holds.{pins_held}
-use Rattle.journal_text.specs.declared.record.Record.{Record}
-use Rattle.rar_loop.specs.Inner.Going.{Tallies}
-use Rattle.rar_loop.specs.Sizes.{IsSame, most_steps}
-use Rattle.rar_loop.proofs.Sizing.{HasSize, held_back}
+use Rattle.rar_loop.specs.Sizes.{IsSame}
+use Rattle.rar_loop.proofs.Sizing.{HasSize}
 use Rattle.gate_graph.specs.Circuit.{Circuit, net_of}
 use Rattle.wire_edit.specs.Tried.{Tried}
 use Rattle.fault_sim.specs.Following.{DiffersAmong}

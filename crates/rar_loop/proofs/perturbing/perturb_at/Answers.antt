@@ -1,5 +1,4 @@
-use Rattle.std.proofs.Common.{◌≡◌, List, Some, subst}
-use Rattle.gate_graph.specs.Circuit.{net_of}
+use Rattle.std.proofs.Common.{◌≡◌, List, subst}
 use Rattle.journal_ranges.specs.Ranges.{AreFit}
 use Rattle.journal_text.specs.Runs.{HasAppended, HasAppendedPart, made_by, records_text, steps_of}
 use Rattle.journal_text.specs.declared.record.Record.{Record}
