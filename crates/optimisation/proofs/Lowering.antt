@@ -1,5 +1,5 @@
 -- A run that might have made fewer tries, though no fewer than it made, is the same run.
-use Rattle.std.proofs.Common.{◌≡◌, ◌≤◌, ◌+◌, ◌-◌, ℕ, Bool, true, false, List, arith}
+use Rattle.std.proofs.Common.{◌≤◌, ◌+◌, ◌-◌, ℕ, Bool, true, List, arith}
 use Rattle.gate_net.specs.Net.{Net}
 use Rattle.wire_edit.specs.declared.steps.Step.{Step}
 use Rattle.rar_loop.specs.Perturbed.{IsTurn}

@@ -24,8 +24,8 @@ use Rattle.rar_loop.specs.Removed.{HasRemoved}
 use Rattle.rar_loop.specs.Swept.{IsSwept}
 use Rattle.optimisation.specs.Inner.Ended.{HasEnded}
 use Rattle.optimisation.specs.Inner.Ran.{sum_of}
-use Rattle.optimisation.specs.Inner.Staged.{AreSame, AreUpTo, HasGoneFurther, HasMerged, HasStages, HaveFollowed, left_of}
-use Rattle.optimisation.specs.Stages.{HaveStages, IsStagedRun, first, further}
+use Rattle.optimisation.specs.Inner.Staged.{AreSame, AreUpTo, HasGoneFurther, HasMerged, HasStages, HaveFollowed}
+use Rattle.optimisation.specs.Stages.{IsStagedRun, first, further}
 use Rattle.optimisation.specs.declared.rounds.Rounds.{Rounds}
 use Rattle.optimisation.proofs.Lowering.{staged_lowered}
 use Rattle.optimisation.proofs.RoundLaws.{counted_on, three_counted}

@@ -2,7 +2,7 @@
 use Rattle.std.proofs.lemmas.List.{append-nil}
 use Rattle.std.proofs.lemmas.Bool.{true≢false}
 use Rattle.std.specs.Prelude.{not}
-use Rattle.std.proofs.Common.{◌≡◌, ◌≤◌, ◌+◌, ◌-◌, ℕ, zero, suc, Bool, true, false, List, [], ◌∷◌, ◌++◌, length, Option, refl, sym, ◌∙◌, ap, subst, arith}
+use Rattle.std.proofs.Common.{◌≡◌, ◌≤◌, ◌+◌, ◌-◌, ℕ, suc, Bool, true, false, List, [], ◌∷◌, ◌++◌, length, Option, refl, sym, ◌∙◌, ap, subst, arith}
 use Rattle.rm_base.specs.Files.{Files}
 use Rattle.rm_base.specs.declared.settings.Made.{Made}
 use Rattle.rm_base.specs.declared.settings.Settings.{Settings}
@@ -12,7 +12,6 @@ use Rattle.wire_edit.specs.Order.{IsTidy}
 use Rattle.wire_edit.specs.declared.steps.Step.{Step}
 use Rattle.candidate_wires.specs.Additions.{net_after}
 use Rattle.journal_ranges.proofs.Public.{fits_then}
-use Rattle.journal_ranges.specs.Ranges.{AreFit}
 use Rattle.journal_text.specs.Joining.{RunsJoin, TextsAppend}
 use Rattle.journal_text.specs.Runs.{AcceptedTo, HasAppended, IsStopped, made_by, none_made, records_text, steps_of}
 use Rattle.journal_text.specs.declared.record.Record.{Record}
@@ -24,9 +23,8 @@ use Rattle.rar_loop.specs.Swept.{IsSwept}
 use Rattle.optimisation.specs.Inner.Ended.{HasEnded}
 use Rattle.optimisation.specs.Inner.Ran.{sum_of}
 use Rattle.optimisation.specs.Inner.Staged.{HasStages}
-use Rattle.optimisation.specs.Inner.Turned.{HasTurned, HasTurnedInVain, HasTurnedOn, HasTurns, HaveFollowed}
-use Rattle.optimisation.specs.Stages.{IsStagedRun}
-use Rattle.optimisation.specs.Turns.{HaveTurns, IsTurnedRun, staged, turned, in_vain}
+use Rattle.optimisation.specs.Inner.Turned.{HasTurned, HasTurnedInVain, HasTurnedOn, HasTurns}
+use Rattle.optimisation.specs.Turns.{IsTurnedRun, staged, turned, in_vain}
 use Rattle.optimisation.specs.declared.rounds.Rounds.{Rounds}
 use Rattle.optimisation.proofs.Lowering.{turn_lowered, turned_lowered}
 use Rattle.optimisation.proofs.RoundLaws.{three_counted}
