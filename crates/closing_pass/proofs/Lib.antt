@@ -6,8 +6,6 @@ pub mod LastOnes
 pub mod Packing
 pub mod BlockLaws
 pub mod UsedVectors
-pub mod Falling
-pub mod GoingOn
 pub mod Recorded
 pub mod Sizes
 pub mod PinFaults

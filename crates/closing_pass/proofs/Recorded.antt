@@ -17,7 +17,7 @@ use Rattle.journal_ranges.proofs.Public.{fits_then}
 use Rattle.journal_ranges.specs.Ranges.{AreFit}
 use Rattle.journal_text.specs.declared.record.Record.{Record}
 use Rattle.closing_pass.specs.Inner.Closing.{HasGone, HasRecordedFix}
-use Rattle.closing_pass.specs.Inner.Going.{AreTidying, HasFixed, Logs}
+use Rattle.recorded_removals.specs.Going.{AreTidying, HasFixed, Logs}
 use Rattle.closing_pass.specs.Reports.{HasClosed, IsRemovedTo, made_in}
 use Rattle.closing_pass.specs.declared.report.Report.{Report}
 use Rattle.wire_edit.specs.Removals.{IsRemoval}

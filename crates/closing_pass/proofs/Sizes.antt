@@ -9,8 +9,7 @@ use Rattle.wire_edit.specs.Tried.{Tried}
 use Rattle.wire_edit.specs.Work.{work, WorkIsBounded}
 use Rattle.closing_pass.specs.Inner.Closing.{Went}
 use Rattle.closing_pass.specs.Reports.{IsNoFuller}
-use Rattle.closing_pass.proofs.Falling.{no_larger_same, no_larger_then}
-use Rattle.closing_pass.proofs.GoingOn.{holds_then}
+use Rattle.recorded_removals.proofs.Public.{no_larger_same, no_larger_then}
 
 -- what every graph tells of its sizes
 pub record IsSized (graph : Circuit) : Type 0 where
@@ -51,6 +50,6 @@ went_none t = record { no_larger = no_larger_same (net_of t.graph); held = refl;
 pub went_then : (t u v : Tried) → Went t u → Went u v → Went t v
 went_then t u v a b = record {
   no_larger = no_larger_then (net_of t.graph) (net_of u.graph) (net_of v.graph) a.no_larger b.no_larger;
-  held = holds_then (pins_held t.graph) (pins_held u.graph) (pins_held v.graph) (length (held t.trail.entries)) (length (held u.trail.entries)) (length (held v.trail.entries)) a.held b.held;
+  held = omega (arith, a.held, b.held);
   room = λ le. b.room (a.room le);
 }

@@ -2,7 +2,6 @@
 pub mod Blocks
 pub mod Closing
 pub mod Findings
-pub mod Going
 pub mod Passing
 pub mod Searching
 pub mod Trying

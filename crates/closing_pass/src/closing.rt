@@ -17,17 +17,18 @@ ghost use Rattle.closing_pass.specs.Inner.Findings.{AreLong};
 ghost use Rattle.closing_pass.specs.Reports.{AreClosed, HasClosed, IsNoFuller};
 
 use crate::effort::Effort;
-use crate::fixing::fix_and_tidy;
 use crate::passing::{Passed, pass_twice};
 use crate::report::Report;
 use crate::words::blocks_of;
 use candidate_vectors::drawn_vectors;
+use changed_nodes::Changed;
 use gate_graph::Graph;
 use journal_ranges::records_fit;
 use journal_text::{
     Stop, accepted_runs_are_writable, accepted_runs_keep, append_records, count_records, runs_join,
     texts_append,
 };
+use recorded_removals::fix_and_tidy;
 use refutation::Tree;
 use rm_base::{Fault, Gate, Made, NoMemory, Settings, Shelf, Vector};
 use std::alloc::Global;
@@ -62,8 +63,10 @@ fn record_fix<S: Shelf>(
     texts_append();
     runs_join();
     accepted_runs_are_writable();
+    trial.graph().well_formed();
     let mut log = Vec::new(alloc);
-    fix_and_tidy(alloc, trial, &mut log, fault, tree)?;
+    let mut changed = Changed::new(alloc);
+    fix_and_tidy(alloc, trial, &mut log, &mut changed, fault, tree)?;
     append_records(alloc, shelf, journal, log.as_slice())?;
     count_records(log.as_slice(), made);
     records_fit(log.as_slice());

@@ -41,7 +41,8 @@ use Rattle.merging.specs.Inner.Going.{TouchesOn}
 use Rattle.merging.specs.Inner.Going.{Follows, Goes, Logs, Stays}
 use Rattle.merging.specs.declared.space.Space.{Space}
 use Rattle.changed_nodes.proofs.Public.{unlisted_append}
-use Rattle.merging.proofs.Sizing.{TurnsXor, gate_budget, turns_xor}
+use Rattle.recorded_removals.proofs.Public.{TurnsXor, gate_budget}
+use Rattle.recorded_removals.specs.Going.{Goes as IsTidiedBy}
 
 -- LISTS OF RECORDS
 pub logs_none : (net : Net) (log : List Record) → Logs net net log log
@@ -157,60 +158,16 @@ both_right true b e = e
 both_right false b e = cc
 
 -- TIDYING
-nodes_same : (gate p : ℕ) (at_xor : Bool) → nodes_added (same_change gate p at_xor) ≡ 0
-nodes_same gate p true = refl
-nodes_same gate p false = refl
+pub tidied_goes : (t u : Tried) (log new : List Record) → IsTidiedBy t u log new → Goes 0 0 t u log new
+tidied_goes t u log new g = record {
+  logs = record { more = g.logs.more; added = g.logs.added; accepted = g.logs.accepted };
+  made = omega (arith, g.no_larger.gates);
+  spent = g.tallies.spent;
+  room = λ k le. g.room k (omega (arith, le));
+}
 
-removal_nodes : (net : Net) (step : Step) → IsRemoval step → nodes_added (change_of net step) ≡ 0
-removal_nodes net (Add gate y) r = absurd r
-removal_nodes net (Fix gate position value) r = refl
-removal_nodes net (NewNot y) r = absurd r
-removal_nodes net (Const gate position) r = constant_cases (λ (c : Change). nodes_added c ≡ 0) gate.0 position (other_driver net gate.0 position) (family_of net gate.0) (constant_at net gate.0 position) refl refl (λ to. refl)
-removal_nodes net (Same gate position) r = nodes_same gate.0 position (is_xor net gate.0)
-removal_nodes net (NoPins gate) r = refl
-removal_nodes net (OnePin gate) r = refl
-removal_nodes net (Twice gate) r = refl
-removal_nodes net (Twin gate other) r = refl
-removal_nodes net (Dead gate) r = refl
-
-tidying_justified : (net : Net) (step : Step) → IsTidying step → IsJustified net step []
-tidying_justified net (Add gate y) t = absurd t
-tidying_justified net (Fix gate position value) t = absurd t
-tidying_justified net (NewNot y) t = absurd t
-tidying_justified net (Const gate position) t = refl
-tidying_justified net (Same gate position) t = refl
-tidying_justified net (NoPins gate) t = refl
-tidying_justified net (OnePin gate) t = refl
-tidying_justified net (Twice gate) t = refl
-tidying_justified net (Twin gate other) t = refl
-tidying_justified net (Dead gate) t = refl
-
-tidying_grows : (net : Net) (step : Step) → IsTidying step → MayGrow net step
-tidying_grows net (Add gate y) t = absurd t
-tidying_grows net (Fix gate position value) t = absurd t
-tidying_grows net (NewNot y) t = absurd t
-tidying_grows net (Const gate position) t = tt
-tidying_grows net (Same gate position) t = tt
-tidying_grows net (NoPins gate) t = tt
-tidying_grows net (OnePin gate) t = tt
-tidying_grows net (Twice gate) t = tt
-tidying_grows net (Twin gate other) t = tt
-tidying_grows net (Dead gate) t = tt
-
-pub tidied_wires : (net after : Net) (step : Step) → IsWellFormed net → IsTidying step → Applies net step → after ≡ stepped net step → wire_count after ≤ wire_count net
-tidied_wires net after step well t applies is =
-    let w : wire_count (stepped net step) ≤ wire_count net + _ = wires_grow net step well applies in
-    let none = removal_pins step (tidying_removes step t) in
-    let e : wire_count after ≡ wire_count (stepped net step) = ap wire_count is in
-    omega (arith, w, none, e)
-
-pub tidied_step :
-    RoomForTidying → (t u : Tried) (step : Step) (log new : List Record) → IsWellFormed (net_of t.graph) → Tidies t u (Ok (Some step)) → new ≡ log ++ record_of.Step step [] ∷ [] → 0 < t.room.steps → Goes 0 0 t u log new
-tidied_step law t u step log new well made is some =
-    let n : IsTidying step × Applies (net_of t.graph) step = next_applies (net_of t.graph) step made.0 in
-    let none : nodes_added (change_of (net_of t.graph) step) ≡ 0 = removal_nodes (net_of t.graph) step (tidying_removes step n.0) in
-    goes_one 0 0 t u step [] log new (turns_xor (net_of t.graph) (change_of (net_of t.graph) step) (applies_changes (net_of t.graph) step well n.1)) (record { applies = n.1; grows = tidying_grows (net_of t.graph) step n.0; justified = tidying_justified (net_of t.graph) step n.0 }) made.1.0 is (omega (arith, none)) some made.1.1.1.1
-    (λ k le. (law (net_of t.graph) step k t.room.steps well made.0 (omega (arith, le))).1)
+pub tidied_stays : (t u : Tried) (log new : List Record) → IsTidiedBy t u log new → Stays t u
+tidied_stays t u log new g = record { start = g.start; first = g.first; holds = g.tallies.holds }
 
 -- WHAT IS READ OF A GRAPH
 pub free_at : (v w : Circuit) (fault : Fault) (found : Option NodeId) (driver : NodeId) → option_map (λ (n : NodeId). n.0) found ≡ slice_get (drivers_of (net_of v) fault.gate.0) fault.position → v ≡ w → found ≡ Some driver → 1 < driver.0 → HasFreePin (net_of w) fault

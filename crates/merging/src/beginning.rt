@@ -6,10 +6,10 @@ ghost use Rattle.gate_net.specs.Net.{gate_count, source_count, wire_count};
 ghost use Rattle.merging.specs.Inner.Merging.{HasBegun, IsReady};
 
 use crate::space::Space;
-use crate::tidying::tidy;
 use changed_nodes::Changed;
 use gate_graph::Graph;
 use journal_text::{Record, accepted_steps_keep};
+use recorded_removals::tidy;
 use rm_base::NoMemory;
 use std::alloc::Global;
 use wire_edit::{BeginRefusal, Room, Trial, tidying_ends};

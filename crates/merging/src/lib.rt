@@ -11,7 +11,6 @@ mod joining;
 mod refuting;
 mod signatures;
 mod space;
-mod tidying;
 mod trying;
 mod walking;
 

@@ -7,7 +7,7 @@ use Rattle.gate_net.specs.Net.{Net, IsWellFormed, gate_count, source_count, wire
 use Rattle.gate_graph.specs.Circuit.{Circuit, net_of}
 use Rattle.gate_graph.specs.Holds.{held, pins_held}
 use Rattle.gate_net.specs.Values.{HasPin}
-use Rattle.rar_loop.specs.Inner.Going.{Tallies}
+use Rattle.recorded_removals.specs.Going.{Tallies}
 use Rattle.wire_edit.specs.Order.{IsTidy}
 use Rattle.wire_edit.specs.Refusals.{live_count}
 use Rattle.wire_edit.specs.Tried.{Tried}

@@ -1,6 +1,4 @@
-pub mod Falling
 pub mod Sizing
-pub mod GoingOn
 pub mod Opens
 pub mod Blocks
 pub mod Looking

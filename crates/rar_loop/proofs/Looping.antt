@@ -21,7 +21,7 @@ use Rattle.wire_edit.specs.Order.{IsTidy}
 use Rattle.wire_edit.specs.Refusals.{live_count}
 use Rattle.wire_edit.specs.Tried.{Tried}
 use Rattle.wire_edit.specs.Work.{work, WorkIsBounded}
-use Rattle.rar_loop.specs.Inner.Going.{Goes, IsNoLarger}
+use Rattle.recorded_removals.specs.Going.{Goes, IsNoLarger}
 use Rattle.journal_text.specs.Runs.{AreRemovals}
 use Rattle.rar_loop.specs.Swept.{IsSwept}
 use Rattle.rar_loop.specs.Inner.Swept.{HasSwept}
@@ -31,7 +31,7 @@ use Rattle.wire_edit.specs.declared.room.Room.{Room}
 use Rattle.rar_loop.specs.Ended.{turn_at}
 use Rattle.rar_loop.specs.Sizes.{IsSame}
 use Rattle.rar_loop.specs.Inner.Improving.{HasBegun, HasImproved}
-use Rattle.rar_loop.proofs.GoingOn.{goes_then}
+use Rattle.recorded_removals.proofs.Public.{goes_then}
 use Rattle.rar_loop.proofs.Blocks.{removals_clean, removals_add_none, places_then, improve_then, turn_then, block_then}
 use Rattle.rar_loop.proofs.Sizing.{HasSize, accepted_places, accepted_sources, within_by, within_same, within_then}
 use Rattle.journal_text.proofs.Public.{accepted_then, steps_then}

@@ -37,12 +37,12 @@ use Rattle.journal_text.specs.declared.record.Record.TheVariants as record_of
 use Rattle.journal_text.specs.Runs.{AcceptedTo, steps_of}
 use Rattle.rar_loop.specs.Inner.Swept.{HasSwept}
 use Rattle.wire_edit.proofs.Public.{live_bound, reader_gate, tidy_reads_none}
-use Rattle.rar_loop.specs.Inner.Going.{HasFixed, IsLeft, Logs, IsNoLarger}
+use Rattle.recorded_removals.specs.Going.{HasFixed, IsLeft, Logs, IsNoLarger}
 use Rattle.journal_text.specs.Runs.{AreRemovals}
 use Rattle.rar_loop.specs.Sizes.{IsSame, most_steps}
 use Rattle.rar_loop.specs.Trying.{IsLent, IsClean}
 use Rattle.rar_loop.specs.Inner.Trying.{IsBetter, IsBack, MayTry, HasAdded, HasReplaced, IsReplaced, IsGained}
-use Rattle.rar_loop.proofs.GoingOn.{removals_then}
+use Rattle.recorded_removals.proofs.Public.{removals_then, tidying_are_removals}
 use Rattle.rar_loop.proofs.Adding.{pin_stays}
 use Rattle.rar_loop.proofs.Sizing.{HasSize, added_gates, added_numbers, accepted_places, accepted_sources, within_by}
 use Rattle.rar_loop.proofs.Opens.{open_pin_fails, open_target_fails, costs_fail}
@@ -78,7 +78,7 @@ replaced_whole net wired mid after pair depth fix_tree l0 l1 l2 added e fixes fi
       fix_tree = fix_tree;
       rest = fixes.rest ++ second.more;
       are = l2-is ∙ ap (λ (xs : List Record). xs ++ (fix ∷ (fixes.rest ++ second.more))) added.1.0;
-      removals = removals_then fixes.rest second.more fixes.removals second.removals;
+      removals = removals_then fixes.rest second.more (tidying_are_removals (steps_of fixes.rest) fixes.local) second.removals;
       accepted = subst (λ (rs : List Record). AcceptedTo net rs after) (sym l2-more) (accepted_then net wired after l0 (first.more ++ second.more) to rest);
       mid = mid;
       tidied = subst (λ (w : Net). TidiesTo (fixed w pair.fault) mid) e tidied;

@@ -1,6 +1,5 @@
 -- Definitions that no public contract reaches: words of private contracts, of invariants, and of laws for proofs.
 pub mod Exchanging
-pub mod Going
 pub mod Improving
 pub mod Kept
 pub mod Perturbing

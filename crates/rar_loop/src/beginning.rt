@@ -8,11 +8,11 @@ ghost use Rattle.rar_loop.specs.Inner.Spaces.{IsReady};
 
 use crate::limits::raise;
 use crate::sweeping::sweep;
-use crate::tidying::tidy;
 use crate::workspace::{Workspace, into_graph};
 use changed_nodes::Changed;
 use gate_graph::Graph;
 use journal_text::{Record, accepted_steps_keep};
+use recorded_removals::tidy;
 use rm_base::NoMemory;
 use std::alloc::Global;
 use wire_edit::{BeginRefusal, Room, Trial, tidying_ends};

@@ -3,16 +3,16 @@ ghost use Rattle.std.specs.Prelude.{◌≡◌, ◌<◌, ◌≤◌, ◌+◌, ◌|
 ghost use Rattle.gate_graph.specs.Circuit.{net_of};
 ghost use Rattle.wire_edit.specs.Order.{IsTidy};
 ghost use Rattle.wire_edit.specs.Work.{work};
-ghost use Rattle.rar_loop.specs.Inner.Going.{Goes};
+ghost use Rattle.recorded_removals.specs.Going.{Goes};
 ghost use Rattle.rar_loop.specs.Inner.Spaces.{HasToolsFor, TouchesOn};
 ghost use Rattle.rar_loop.specs.Inner.Swept.{HasLookedAt, HasPassed, HasSwept};
 ghost use Rattle.rm_base.specs.Numbers.{number_bound};
 
-use crate::fixing::fix_and_tidy;
 use crate::refuting::refuted_at;
 use crate::workspace::Workspace;
 use changed_nodes::Changed;
 use journal_text::{Record, accepted_steps_keep};
+use recorded_removals::fix_and_tidy;
 use rm_base::{NoMemory, NodeId};
 use std::alloc::Global;
 

@@ -10,7 +10,7 @@ use Rattle.rm_base.specs.Files.{Files}
 use Rattle.rm_base.specs.declared.settings.Made.{Made}
 use Rattle.wire_edit.specs.Tried.{Tried}
 use Rattle.wire_edit.specs.Work.{work}
-use Rattle.closing_pass.specs.Inner.Going.{IsNoLarger}
+use Rattle.recorded_removals.specs.Going.{IsNoLarger}
 use Rattle.closing_pass.specs.Reports.{IsRemovedTo}
 
 -- there is room for all steps that may follow, and nothing grew

@@ -1,10 +1,22 @@
-use Rattle.std.proofs.Common.{◌≤◌, ◌+◌, [], arith}
-use Rattle.gate_graph.specs.Circuit.{net_of}
-use Rattle.closing_pass.specs.Inner.Going.{HasFixed, Logs}
+use Rattle.std.proofs.Common.{◌≤◌, ◌+◌, [], arith, subst}
+use Rattle.gate_graph.specs.Circuit.{Circuit, net_of}
+use Rattle.gate_net.specs.Net.{IsWellFormed}
+use Rattle.wire_edit.proofs.Public.{tidy_reads_none}
+use Rattle.recorded_removals.specs.Going.{HasFixed, Logs}
 use Rattle.closing_pass.proofs.Recorded.{fix_accepted, fix_recorded}
 use Rattle.wire_edit.specs.Work.{work}
 use Rattle.closing_pass.proofs.closing.record_fix.Goals as goal
 use Rattle.rm_base.proofs.Public.{on_err}
+
+pub fix_and_tidy-requires-clause-pin : goal.fix_and_tidy-requires-clause-pin
+fix_and_tidy-requires-clause-pin g c =
+    let formed : IsWellFormed (net_of c.args.trial.now.graph) = subst (λ (v : Circuit). IsWellFormed (net_of v)) c.graph.ensures c.well_formed.ensures.net in
+    (c.requires.pin.0, (c.requires.pin.1, tidy_reads_none (net_of c.args.trial.now.graph) formed c.requires.tidy c.args.fault.gate.0 c.args.fault.position c.requires.pin.0 c.requires.pin.1))
+
+pub returns-clause-fewer : goal.returns-clause-fewer
+returns-clause-fewer g c =
+    let formed : IsWellFormed (net_of c.args.trial.now.graph) = subst (λ (v : Circuit). IsWellFormed (net_of v)) c.graph.ensures c.well_formed.ensures.net in
+    c.in_ok-fix_and_tidy.ensures.fewer (tidy_reads_none (net_of c.args.trial.now.graph) formed c.requires.tidy)
 
 pub returns-in_err-append_records-clause-stopped : goal.returns-in_err-append_records-clause-stopped
 returns-in_err-append_records-clause-stopped g c =
@@ -26,6 +38,6 @@ returns-clause-recorded g c =
 pub returns-clause-went : goal.returns-clause-went
 returns-clause-went g c = record {
   no_larger = c.in_ok-fix_and_tidy.ensures.goes.no_larger;
-  held = c.in_ok-fix_and_tidy.ensures.goes.held;
+  held = c.in_ok-fix_and_tidy.ensures.goes.tallies.holds;
   room = λ le. let r : work (net_of c.fix_and_tidy.new.trial.graph) + 0 ≤ c.fix_and_tidy.new.trial.room.steps = c.in_ok-fix_and_tidy.ensures.goes.room 0 (omega (arith, le)) in omega (arith, r);
 }

@@ -3,10 +3,10 @@ use Rattle.gate_graph.specs.Circuit.{net_of}
 use Rattle.gate_graph.specs.Holds.{pins_held}
 use Rattle.wire_edit.specs.Work.{work}
 use Rattle.wire_edit.specs.Tried.{Tried}
-use Rattle.rar_loop.specs.Inner.Going.{Goes}
+use Rattle.recorded_removals.specs.Going.{Goes}
 use Rattle.rar_loop.specs.Inner.Swept.{HasSwept}
 use Rattle.rar_loop.specs.Inner.Improving.{HasBegun}
-use Rattle.rar_loop.proofs.GoingOn.{tallies_then}
+use Rattle.recorded_removals.proofs.Public.{tallies_then}
 use Rattle.rar_loop.proofs.Sizing.{HasSize, held_back}
 use Rattle.rar_loop.proofs.Looping.{begun_again, begun_first, err_ok, room_first}
 use Rattle.rar_loop.proofs.beginning.swept_graph.Goals as goal

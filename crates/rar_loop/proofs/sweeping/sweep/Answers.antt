@@ -2,7 +2,7 @@ use Rattle.std.proofs.Common.{◌≡◌, ◌+◌, ◌≤◌, Bool, true, false, 
 use Rattle.gate_graph.specs.Circuit.{net_of}
 use Rattle.wire_edit.specs.Work.{work}
 use Rattle.rar_loop.specs.Inner.Swept.{HasPassed}
-use Rattle.rar_loop.proofs.GoingOn.{goes_then}
+use Rattle.recorded_removals.proofs.Public.{goes_then}
 use Rattle.rar_loop.proofs.Looking.{pays_more, swept_last}
 use Rattle.rar_loop.proofs.sweeping.sweep.Goals as goal
 

@@ -9,7 +9,7 @@ use Rattle.wire_edit.specs.Steps.{Applies}
 use Rattle.candidate_wires.specs.Gains.{net_for, with_candidate}
 use Rattle.changed_nodes.specs.Changing.{HasNoted, NotesOn}
 use Rattle.rar_loop.proofs.Readying.{ready_after_add, add_refused, add_here, net_added, fault_is, fault_pin, new_pin_open, has_added}
-use Rattle.rar_loop.proofs.GoingOn.{tallies_one, tallies_then}
+use Rattle.recorded_removals.proofs.Public.{tallies_one, tallies_then}
 use Rattle.journal_text.specs.declared.record.Record.TheVariants as record_of
 use Rattle.rar_loop.proofs.trying.add_wire.Goals as goal
 

@@ -7,10 +7,10 @@ use Rattle.recursive_learning.specs.Serving.{IsServing}
 use Rattle.rar_loop.specs.Inner.Trying.{HasAdded}
 use Rattle.rar_loop.proofs.Replacing.{added_sources, target_pin, target_free, replaced_whole}
 use Rattle.wire_edit.specs.Work.{work}
-use Rattle.rar_loop.specs.Inner.Going.{Goes, Tallies}
+use Rattle.recorded_removals.specs.Going.{Goes, Tallies}
 use Rattle.rar_loop.specs.Inner.Spaces.{TouchesOn}
 use Rattle.rar_loop.specs.Inner.Swept.{HasSwept}
-use Rattle.rar_loop.proofs.GoingOn.{left_then, tallies_then}
+use Rattle.recorded_removals.proofs.Public.{left_then, tallies_then}
 use Rattle.rar_loop.proofs.trying.replace.Goals as goal
 
 pub invariant_of-question : goal.invariant_of-question

@@ -4,7 +4,7 @@ use Rattle.gate_net.specs.Edits.{IsSameBut}
 use Rattle.gate_net.specs.Net.{Net, IsWellFormed, wire_count}
 use Rattle.gate_graph.specs.Holds.{pins_held}
 use Rattle.journal_text.specs.declared.record.Record.{Record}
-use Rattle.rar_loop.specs.Inner.Going.{Tallies}
+use Rattle.recorded_removals.specs.Going.{Tallies}
 use Rattle.rar_loop.specs.Sizes.{most_steps}
 use Rattle.rar_loop.proofs.Sizing.{HasSize, held_back}
 use Rattle.gate_graph.specs.Circuit.{Circuit, net_of}

@@ -9,7 +9,7 @@ use Rattle.rar_loop.proofs.NewNots.{least_same}
 use Rattle.gate_graph.specs.Circuit.{Circuit, net_of}
 use Rattle.rar_loop.proofs.Adding.{node_of}
 use Rattle.rar_loop.proofs.Readying.{ready_after_not}
-use Rattle.rar_loop.proofs.GoingOn.{tallies_one}
+use Rattle.recorded_removals.proofs.Public.{tallies_one}
 use Rattle.wire_edit.specs.declared.steps.Step.TheVariants.{NewNot}
 use Rattle.journal_text.specs.declared.record.Record.TheVariants as record_of
 use Rattle.rar_loop.proofs.trying.wire_of.Goals as goal

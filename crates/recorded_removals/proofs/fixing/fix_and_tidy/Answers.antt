@@ -8,9 +8,9 @@ use Rattle.gate_graph.specs.Circuit.{Circuit, net_of}
 use Rattle.wire_edit.specs.Work.{work}
 use Rattle.wire_edit.specs.Tidying.{TidiesTo}
 use Rattle.changed_nodes.specs.Changing.{HasNoted, NotesOn}
-use Rattle.rar_loop.specs.Inner.Going.{Goes}
-use Rattle.rar_loop.proofs.GoingOn.{goes_then, fixed_step, fix_refused}
-use Rattle.rar_loop.proofs.fixing.fix_and_tidy.Goals as goal
+use Rattle.recorded_removals.specs.Going.{Goes}
+use Rattle.recorded_removals.proofs.GoingOn.{goes_then, fixed_step, fix_refused}
+use Rattle.recorded_removals.proofs.fixing.fix_and_tidy.Goals as goal
 
 pub unreachable-requires : goal.unreachable-requires
 unreachable-requires c =
@@ -21,7 +21,7 @@ pub tidy-requires : goal.tidy-requires
 tidy-requires c =
     let formed : IsWellFormed (net_of c.args.trial.now.graph) = subst (λ (v : Circuit). IsWellFormed (net_of v)) c.graph.ensures c.well_formed-2.ensures.net in
     let one : Goes c.args.trial.now c.apply.new.self c.args.log.now.items c.push.new.self.items =
-    fixed_step c.room_suffices.ensures.fixes c.args.trial.now c.apply.new.self c.args.fault c.args.tree c.args.log.now.items c.push.new.self.items formed c.requires.pin c.requires.tree c.in-Ok.ensures.net c.in-Ok.ensures.room c.in-Ok.ensures.start c.in-Ok.ensures.first c.in-Ok.ensures.epoch c.in_ok-push.ensures.items c.requires.room c.apply.ensures.held in
+    fixed_step c.steps_keep.ensures.sources c.room_suffices.ensures.fixes c.tidying_ends.ensures.fixes c.args.trial.now c.apply.new.self c.args.fault c.args.tree c.args.log.now.items c.push.new.self.items formed c.requires.pin c.requires.tree c.in-Ok.ensures.net c.in-Ok.ensures.room c.in-Ok.ensures.start c.in-Ok.ensures.first c.in-Ok.ensures.epoch c.in_ok-push.ensures.items c.requires.room c.apply.ensures.held in
     let zero : work (net_of c.apply.new.self.graph) + 0 ≤ c.apply.new.self.room.steps = one.room 0 (omega (arith, c.requires.room)) in
     record { room = omega (arith, zero) }
 
@@ -29,7 +29,7 @@ pub returns-clause-goes : goal.returns-clause-goes
 returns-clause-goes c =
     let formed : IsWellFormed (net_of c.args.trial.now.graph) = subst (λ (v : Circuit). IsWellFormed (net_of v)) c.graph.ensures c.well_formed-2.ensures.net in
     let one : Goes c.args.trial.now c.apply.new.self c.args.log.now.items c.push.new.self.items =
-    fixed_step c.room_suffices.ensures.fixes c.args.trial.now c.apply.new.self c.args.fault c.args.tree c.args.log.now.items c.push.new.self.items formed c.requires.pin c.requires.tree c.in-Ok.ensures.net c.in-Ok.ensures.room c.in-Ok.ensures.start c.in-Ok.ensures.first c.in-Ok.ensures.epoch c.in_ok-push.ensures.items c.requires.room c.apply.ensures.held in
+    fixed_step c.steps_keep.ensures.sources c.room_suffices.ensures.fixes c.tidying_ends.ensures.fixes c.args.trial.now c.apply.new.self c.args.fault c.args.tree c.args.log.now.items c.push.new.self.items formed c.requires.pin c.requires.tree c.in-Ok.ensures.net c.in-Ok.ensures.room c.in-Ok.ensures.start c.in-Ok.ensures.first c.in-Ok.ensures.epoch c.in_ok-push.ensures.items c.requires.room c.apply.ensures.held in
     goes_then c.args.trial.now c.apply.new.self c.tidy.new.trial c.args.log.now.items c.push.new.self.items c.tidy.new.log.items one c.in_ok-tidy.ensures.goes
 
 pub returns-clause-fewer : goal.returns-clause-fewer
@@ -40,11 +40,11 @@ returns-clause-fewer c = λ none.
 
 pub returns-clause-fixed : goal.returns-clause-fixed
 returns-clause-fixed c =
-    let more = c.in_ok-tidy.ensures.goes.logs in
+    let more = c.in_ok-tidy.ensures.local in
     record {
       rest = more.more;
       are = more.added ∙ ap (λ (xs : List Record). xs ++ more.more) c.in_ok-push.ensures.items ∙ append_assoc c.args.log.now.items (record_of.Step (Fix c.args.fault.gate c.args.fault.position c.args.fault.value) c.args.tree ∷ []) more.more;
-      removals = more.removals;
+      local = more.local;
     }
 
 pub returns-clause-noted : goal.returns-clause-noted

@@ -7,9 +7,9 @@ ghost use Rattle.refutation.specs.Branches.{AreAccepted};
 ghost use Rattle.wire_edit.specs.Order.{IsTidy};
 ghost use Rattle.wire_edit.specs.Work.{work};
 ghost use Rattle.wire_edit.specs.Tidying.{TidiesTo};
-ghost use Rattle.changed_nodes.specs.Changing.{NotesOn};
-ghost use Rattle.rar_loop.specs.Inner.Going.{Goes, HasFixed};
 ghost use Rattle.wire_edit.specs.Removals.{HasFreePin, ReadsNoConstants};
+ghost use Rattle.changed_nodes.specs.Changing.{NotesOn};
+ghost use Rattle.recorded_removals.specs.Going.{Goes, HasFixed};
 
 use crate::tidying::tidy;
 use changed_nodes::Changed;
@@ -19,9 +19,9 @@ use rm_base::{Fault, NoMemory};
 use std::alloc::Global;
 use wire_edit::{Step, Trial, room_suffices, steps_keep, tidying_ends};
 
-/// Fixes the refuted pin, which no constant drives, tidies, and notes what that changes. In a net without constant pins a
-/// wire goes.
-pub(crate) fn fix_and_tidy(
+/// Fixes the refuted pin, which no constant drives, tidies, records these steps, the fix with its tree, and notes what they
+/// change. In a net without constant pins a wire goes. The room must suffice for the work.
+pub fn fix_and_tidy(
     alloc: Global,
     trial: &mut Trial,
     log: &mut Vec<Record>,

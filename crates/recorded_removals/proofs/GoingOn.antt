@@ -13,7 +13,7 @@ use Rattle.gate_graph.specs.Circuit.{net_of}
 use Rattle.gate_graph.specs.Holds.{HoldsOn}
 use Rattle.refutation.specs.Branches.{AreAccepted}
 use Rattle.refutation.specs.declared.items.Item.{Item}
-use Rattle.wire_edit.proofs.Public.{applies_changes, constant_cases, fix_applies, gate_live, is_live_there, length_budget, next_applies, removal_pins, room_on, room_steps, tidying_removes, wires_grow}
+use Rattle.wire_edit.proofs.Public.{applies_changes, constant_cases, fix_applies, gate_live, is_live_there, length_budget, next_applies, removal_frees, removal_pins, room_on, room_steps, tidying_removes, wires_grow}
 use Rattle.wire_edit.specs.declared.steps.Step.{Step}
 use Rattle.wire_edit.specs.declared.steps.Step.TheVariants.{Add, Fix, NewNot, Const, Same, NoPins, OnePin, Twice, Twin, Dead}
 use Rattle.wire_edit.specs.declared.refusal.EditRefusal.{EditRefusal}
@@ -21,14 +21,14 @@ use Rattle.wire_edit.specs.declared.room.Room.{Room}
 use Rattle.wire_edit.specs.Tests.{is_live, is_xor, constant_at, family_of}
 use Rattle.wire_edit.specs.Steps.{Applies, stepped, change_of, other_driver, same_change}
 use Rattle.wire_edit.specs.Refusals.{refusal_of, room_after, IsAnswer}
-use Rattle.wire_edit.specs.Laws.{IsTidying}
+use Rattle.wire_edit.specs.Laws.{IsTidying, StepsKeepSources}
 use Rattle.wire_edit.specs.Tried.{Tried, start_of, Tidies}
-use Rattle.wire_edit.specs.Work.{work, pins_made, RoomForTidying, RoomForFixes}
+use Rattle.wire_edit.specs.Work.{work, pins_made, FixesEnd, RoomForTidying, RoomForFixes, TidyingEnds}
 use Rattle.journal_text.specs.declared.record.Record.{Record}
 use Rattle.journal_text.specs.Accepted.{IsJustified, MayGrow, IsAcceptedStep}
 use Rattle.journal_text.specs.Runs.{steps_of, AreRemovals}
-use Rattle.rar_loop.specs.Inner.Going.{Logs, IsLeft, IsNoLarger, Tallies, Goes}
-use Rattle.rar_loop.proofs.Sizing.{no_gates, turns_xor}
+use Rattle.recorded_removals.specs.Going.{AddsLocal, AreTidying, Logs, IsLeft, IsNoLarger, Tallies, Goes}
+use Rattle.recorded_removals.proofs.Gates.{no_gates, places_stay, turns_xor}
 use Rattle.journal_text.proofs.Public.{accepted_then}
 use Rattle.wire_edit.specs.Removals.{HasFreePin, IsRemoval}
 use Rattle.journal_text.specs.declared.record.Record.TheVariants as record_of
@@ -41,18 +41,45 @@ removals_then (record_of.Hit fault vector ∷ first) second a b = removals_then 
 removals_then (record_of.Spent fault tree ∷ first) second a b = removals_then first second a b
 
 pub logs_none : (net : Net) (log : List Record) → Logs net net log log
-logs_none net log = record { more = []; added = sym (append-nil log); accepted = refl; removals = tt }
+logs_none net log = record { more = []; added = sym (append-nil log); accepted = refl; removals = tt; spent = omega arith }
 
 pub logs_then : (net mid after : Net) (a b c : List Record) → Logs net mid a b → Logs mid after b c → Logs net after a c
-logs_then net mid after a b c l m = record {
+logs_then net mid after a b c l m =
+    let size : length (l.more ++ m.more) ≡ length l.more + length m.more = length-append l.more m.more in
+    record {
+      more = l.more ++ m.more;
+      added = m.added ∙ ap (λ (xs : List Record). xs ++ m.more) l.added ∙ append_assoc a l.more m.more;
+      accepted = accepted_then net mid after l.more m.more l.accepted m.accepted;
+      removals = removals_then l.more m.more l.removals m.removals;
+      spent = omega (arith, size, l.spent, m.spent);
+    }
+
+pub logs_one : (net : Net) (step : Step) (tree : List Item) (log new : List Record) → IsAcceptedStep net step tree → IsRemoval step → work (stepped net step) + 1 ≤ work net → new ≡ log ++ record_of.Step step tree ∷ [] → Logs net (stepped net step) log new
+logs_one net step tree log new accepted removal falls is = record { more = record_of.Step step tree ∷ []; added = is; accepted = (accepted, refl); removals = (removal, tt); spent = omega (arith, falls) }
+
+tidying_then : (first second : List Record) → AreTidying (steps_of first) → AreTidying (steps_of second) → AreTidying (steps_of (first ++ second))
+tidying_then [] second a b = b
+tidying_then (record_of.Step step tree ∷ first) second a b = (a.0, tidying_then first second a.1 b)
+tidying_then (record_of.Hit fault vector ∷ first) second a b = tidying_then first second a b
+tidying_then (record_of.Spent fault tree ∷ first) second a b = tidying_then first second a b
+
+pub local_none : (log : List Record) → AddsLocal log log
+local_none log = record { more = []; added = sym (append-nil log); local = tt }
+
+pub local_then : (a b c : List Record) → AddsLocal a b → AddsLocal b c → AddsLocal a c
+local_then a b c l m = record {
   more = l.more ++ m.more;
   added = m.added ∙ ap (λ (xs : List Record). xs ++ m.more) l.added ∙ append_assoc a l.more m.more;
-  accepted = accepted_then net mid after l.more m.more l.accepted m.accepted;
-  removals = removals_then l.more m.more l.removals m.removals;
+  local = tidying_then l.more m.more l.local m.local;
 }
 
-pub logs_one : (net : Net) (step : Step) (tree : List Item) (log new : List Record) → IsAcceptedStep net step tree → IsRemoval step → new ≡ log ++ record_of.Step step tree ∷ [] → Logs net (stepped net step) log new
-logs_one net step tree log new accepted removal is = record { more = record_of.Step step tree ∷ []; added = is; accepted = (accepted, refl); removals = (removal, tt) }
+pub local_one : (step : Step) (tree : List Item) (log new : List Record) → IsTidying step → new ≡ log ++ record_of.Step step tree ∷ [] → AddsLocal log new
+local_one step tree log new tidying is = record { more = record_of.Step step tree ∷ []; added = is; local = (tidying, tt) }
+
+-- what neither adds nor fixes removes
+pub tidying_are_removals : (steps : List Step) → AreTidying steps → AreRemovals steps
+tidying_are_removals [] t = tt
+tidying_are_removals (s ∷ steps) t = (tidying_removes s t.0, tidying_are_removals steps t.1)
 
 -- SIZES
 nodes_same : (gate p : ℕ) (at_xor : Bool) → nodes_added (same_change gate p at_xor) ≡ 0
@@ -77,11 +104,31 @@ no_nodes net step r =
     let none : nodes_added (change_of net step) ≡ 0 = removal_nodes net step r in
     omega (arith, le, none)
 
-pub no_larger : (net : Net) (step : Step) → IsWellFormed net → Applies net step → IsRemoval step → IsNoLarger net (stepped net step)
-no_larger net step well applies r =
+pub no_larger : StepsKeepSources → (net : Net) (step : Step) → IsWellFormed net → Applies net step → IsRemoval step → IsNoLarger net (stepped net step)
+no_larger sources net step well applies r =
     let w : wire_count (stepped net step) ≤ wire_count net + pins_made step = wires_grow net step well applies in
     let none : pins_made step ≡ 0 = removal_pins step r in
-    record { wires = omega (arith, w, none); gates = no_gates net step (turns_xor net (change_of net step) (applies_changes net step well applies)) (removal_nodes net step r); numbers = no_nodes net step r }
+    record {
+      wires = omega (arith, w, none);
+      free = removal_frees net step well applies r;
+      gates = no_gates net step (turns_xor net (change_of net step) (applies_changes net step well applies)) (removal_nodes net step r);
+      numbers = no_nodes net step r;
+      sources = sources net step well applies;
+      places = places_stay net (change_of net step);
+    }
+
+pub no_larger_same : (net : Net) → IsNoLarger net net
+no_larger_same net = record { wires = omega arith; free = omega arith; gates = omega arith; numbers = omega arith; sources = refl; places = refl }
+
+pub no_larger_then : (net mid after : Net) → IsNoLarger net mid → IsNoLarger mid after → IsNoLarger net after
+no_larger_then net mid after a b = record {
+  wires = omega (arith, a.wires, b.wires);
+  free = omega (arith, a.free, b.free);
+  gates = omega (arith, a.gates, b.gates);
+  numbers = omega (arith, a.numbers, b.numbers);
+  sources = b.sources ∙ a.sources;
+  places = b.places ∙ a.places;
+}
 
 -- TALLIES
 pub tallies_none : (t : Tried) (log : List Record) → Tallies t t log log
@@ -120,16 +167,12 @@ left_one t u step r is =
 
 -- GOING ON
 pub goes_none : (t : Tried) (log : List Record) → Goes t t log log
-goes_none t log = record { logs = logs_none (net_of t.graph) log; no_larger = record { wires = omega arith; gates = omega arith; numbers = omega arith }; start = refl; first = refl; epoch = refl; room = λ k le. le; tallies = tallies_none t log; left = record { pins = omega arith; nodes = omega arith } }
+goes_none t log = record { logs = logs_none (net_of t.graph) log; no_larger = no_larger_same (net_of t.graph); start = refl; first = refl; epoch = refl; room = λ k le. le; tallies = tallies_none t log; left = record { pins = omega arith; nodes = omega arith } }
 
 pub goes_then : (t u v : Tried) (a b c : List Record) → Goes t u a b → Goes u v b c → Goes t v a c
 goes_then t u v a b c g h = record {
   logs = logs_then (net_of t.graph) (net_of u.graph) (net_of v.graph) a b c g.logs h.logs;
-  no_larger = record {
-    wires = omega (arith, g.no_larger.wires, h.no_larger.wires);
-    gates = omega (arith, g.no_larger.gates, h.no_larger.gates);
-    numbers = omega (arith, g.no_larger.numbers, h.no_larger.numbers);
-  };
+  no_larger = no_larger_then (net_of t.graph) (net_of u.graph) (net_of v.graph) g.no_larger h.no_larger;
   start = h.start ∙ g.start;
   first = h.first ∙ g.first;
   epoch = h.epoch ∙ g.epoch;
@@ -140,12 +183,12 @@ goes_then t u v a b c g h = record {
 
 -- a removal was made and recorded
 pub goes_one :
-    (t u : Tried) (step : Step) (tree : List Item) (log new : List Record) → IsWellFormed (net_of t.graph) → IsAcceptedStep (net_of t.graph) step tree → IsRemoval step
-    → net_of u.graph ≡ stepped (net_of t.graph) step → new ≡ log ++ record_of.Step step tree ∷ [] → start_of u ≡ start_of t → u.first ≡ t.first → u.graph.epoch ≡ t.graph.epoch
+    StepsKeepSources → (t u : Tried) (step : Step) (tree : List Item) (log new : List Record) → IsWellFormed (net_of t.graph) → IsAcceptedStep (net_of t.graph) step tree → IsRemoval step
+    → work (stepped (net_of t.graph) step) + 1 ≤ work (net_of t.graph) → net_of u.graph ≡ stepped (net_of t.graph) step → new ≡ log ++ record_of.Step step tree ∷ [] → start_of u ≡ start_of t → u.first ≡ t.first → u.graph.epoch ≡ t.graph.epoch
     → ((k : ℕ) → work (net_of t.graph) + k ≤ t.room.steps → work (net_of u.graph) + k ≤ u.room.steps) → Tallies t u log new → u.room ≡ room_after t.room step → Goes t u log new
-goes_one t u step tree log new well accepted removal net is start first epoch room tallies after = record {
-  logs = subst (λ (n : Net). Logs (net_of t.graph) n log new) (sym net) (logs_one (net_of t.graph) step tree log new accepted removal is);
-  no_larger = subst (λ (n : Net). IsNoLarger (net_of t.graph) n) (sym net) (no_larger (net_of t.graph) step well accepted.applies removal);
+goes_one sources t u step tree log new well accepted removal falls net is start first epoch room tallies after = record {
+  logs = subst (λ (n : Net). Logs (net_of t.graph) n log new) (sym net) (logs_one (net_of t.graph) step tree log new accepted removal falls is);
+  no_larger = subst (λ (n : Net). IsNoLarger (net_of t.graph) n) (sym net) (no_larger sources (net_of t.graph) step well accepted.applies removal);
   start = start;
   first = first;
   epoch = epoch;
@@ -188,29 +231,34 @@ tidying_grows net (Twin gate other) t = tt
 tidying_grows net (Dead gate) t = tt
 
 pub tidied_step :
-    RoomForTidying → (t u : Tried) (step : Step) (log new : List Record) → IsWellFormed (net_of t.graph) → Tidies t u (Ok (Some step)) → start_of u ≡ start_of t → u.first ≡ t.first → u.graph.epoch ≡ t.graph.epoch
-    → new ≡ log ++ record_of.Step step [] ∷ [] → 0 < t.room.steps → HoldsOn t.graph u.graph t.trail.entries u.trail.entries → Goes t u log new
-tidied_step law t u step log new well made start first epoch is some holds =
+    StepsKeepSources → RoomForTidying → TidyingEnds → (t u : Tried) (step : Step) (log new : List Record) → IsWellFormed (net_of t.graph) → Tidies t u (Ok (Some step)) → start_of u ≡ start_of t → u.first ≡ t.first → u.graph.epoch ≡ t.graph.epoch
+    → new ≡ log ++ record_of.Step step [] ∷ [] → 0 < t.room.steps → HoldsOn t.graph u.graph t.trail.entries u.trail.entries → Goes t u log new × AddsLocal log new
+tidied_step sources law ends t u step log new well made start first epoch is some holds =
     let n : IsTidying step × Applies (net_of t.graph) step = next_applies (net_of t.graph) step made.0 in
-    goes_one t u step [] log new well (record { applies = n.1; grows = tidying_grows (net_of t.graph) step n.0; justified = tidying_justified (net_of t.graph) step n.0 }) (tidying_removes step n.0) made.1.0 is start first epoch
-    (λ k le.
-    let r : (0 < t.room.steps) × (work (stepped (net_of t.graph) step) + k ≤ t.room.steps - 1) = law (net_of t.graph) step k t.room.steps well made.0 le in
-    let w : work (net_of u.graph) ≡ work (stepped (net_of t.graph) step) = ap work made.1.0 in
-    let here : work (stepped (net_of t.graph) step) + k ≤ u.room.steps = room_on t.room u.room step (work (stepped (net_of t.graph) step)) k made.1.1.1.1 r.1 in
-    omega (arith, here, w))
-    (tallies_one t u (record_of.Step step []) log new is some (ap (λ (r : Room). r.steps) made.1.1.1.1 ∙ room_steps t.room step) holds)
-    made.1.1.1.1
+    let falls : work (stepped (net_of t.graph) step) < work (net_of t.graph) = ends (net_of t.graph) step well made.0 in (
+      goes_one sources t u step [] log new well (record { applies = n.1; grows = tidying_grows (net_of t.graph) step n.0; justified = tidying_justified (net_of t.graph) step n.0 }) (tidying_removes step n.0) (omega (arith, falls)) made.1.0 is start first epoch
+      (λ k le.
+      let r : (0 < t.room.steps) × (work (stepped (net_of t.graph) step) + k ≤ t.room.steps - 1) = law (net_of t.graph) step k t.room.steps well made.0 le in
+      let w : work (net_of u.graph) ≡ work (stepped (net_of t.graph) step) = ap work made.1.0 in
+      let here : work (stepped (net_of t.graph) step) + k ≤ u.room.steps = room_on t.room u.room step (work (stepped (net_of t.graph) step)) k made.1.1.1.1 r.1 in
+      omega (arith, here, w))
+      (tallies_one t u (record_of.Step step []) log new is some (ap (λ (r : Room). r.steps) made.1.1.1.1 ∙ room_steps t.room step) holds)
+      made.1.1.1.1,
+      local_one step [] log new n.0 is,
+    )
 
 -- FIXING
 pub fixed_step :
-    RoomForFixes → (t u : Tried) (fault : Fault) (tree : List Item) (log new : List Record) → IsWellFormed (net_of t.graph) → HasFreePin (net_of t.graph) fault → AreAccepted (net_of t.graph) fault tree
+    StepsKeepSources → RoomForFixes → FixesEnd → (t u : Tried) (fault : Fault) (tree : List Item) (log new : List Record) → IsWellFormed (net_of t.graph) → HasFreePin (net_of t.graph) fault → AreAccepted (net_of t.graph) fault tree
     → net_of u.graph ≡ fixed (net_of t.graph) fault → u.room ≡ room_after t.room (Fix fault.gate fault.position fault.value) → start_of u ≡ start_of t → u.first ≡ t.first → u.graph.epoch ≡ t.graph.epoch
     → new ≡ log ++ record_of.Step (Fix fault.gate fault.position fault.value) tree ∷ [] → work (net_of t.graph) ≤ t.room.steps → HoldsOn t.graph u.graph t.trail.entries u.trail.entries → Goes t u log new
-fixed_step law t u fault tree log new well pin accepted net room start first' epoch is fits holds =
+fixed_step sources law ends t u fault tree log new well pin accepted net room start first' epoch is fits holds =
     let step : Step = Fix fault.gate fault.position fault.value in
     let applies : Applies (net_of t.graph) step = fix_applies (net_of t.graph) fault well pin in
     let first : (0 < t.room.steps) × (work (stepped (net_of t.graph) step) + 0 ≤ t.room.steps - 1) = law (net_of t.graph) step pin.0 0 t.room.steps well applies pin.1.0 pin.1.1 (omega (arith, fits)) in
-    goes_one t u step tree log new well (record { applies = applies; grows = tt; justified = accepted }) tt net is start first' epoch
+    let one : nat_lt 1 pin.0 ≡ true = lt-ltb 1 pin.0 pin.1.1 in
+    let less : work (stepped (net_of t.graph) step) + 1 ≤ work (net_of t.graph) = rw one at (ends (net_of t.graph) step pin.0 well applies pin.1.0) in
+    goes_one sources t u step tree log new well (record { applies = applies; grows = tt; justified = accepted }) tt less net is start first' epoch
     (λ k le.
     let r : (0 < t.room.steps) × (work (stepped (net_of t.graph) step) + k ≤ t.room.steps - 1) = law (net_of t.graph) step pin.0 k t.room.steps well applies pin.1.0 pin.1.1 le in
     let w : work (net_of u.graph) ≡ work (stepped (net_of t.graph) step) = ap work net in
