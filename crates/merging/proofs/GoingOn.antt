@@ -1,6 +1,6 @@
 -- Going on inside a trial, step by step.
 use Rattle.std.proofs.Common.{◌≡◌, ℕ, ◌+◌, ◌-◌, ◌<◌, ◌≤◌, inl, inr, Bool, true, false, not, Option, Some, None, List, [], ◌∷◌, ◌++◌, length, refl, sym, ◌∙◌, ap, subst, append_assoc, arith}
-use Rattle.std.specs.Prelude.{slice_get, Err, IfOk, Ok, OnOk, Result, nat_lt, ◌&&◌, if◌then◌else◌}
+use Rattle.std.specs.Prelude.{slice_get, Err, IfOk, Ok, OnOk, Result, nat_lt, ◌&&◌}
 use Rattle.std.specs.Option.{option_map}
 use Rattle.std.proofs.lemmas.Bool.{cases_lt, ltb-true}
 use Rattle.std.proofs.lemmas.List.{append-nil, length-append}
@@ -8,33 +8,33 @@ use Rattle.rm_base.specs.Numbers.{numbers_of}
 use Rattle.rm_base.specs.declared.numbers.Fault.{Fault}
 use Rattle.rm_base.specs.declared.numbers.NodeId.{NodeId}
 use Rattle.gate_net.proofs.Public.{node_at-other}
-use Rattle.gate_net.specs.Edits.{IsLeastFree, IsSameBut, constant_node, last_pin, with_pin}
+use Rattle.gate_net.specs.Edits.{IsLeastFree, IsSameBut, last_pin, with_pin}
 use Rattle.gate_net.specs.Net.{Net, drivers_of, gate_count, IsGate, IsWellFormed, node_at, Reads, wire_count}
-use Rattle.gate_net.specs.Values.{HasPin, same_bool}
+use Rattle.gate_net.specs.Values.{HasPin}
 use Rattle.gate_graph.specs.Changes.{Edits}
 use Rattle.gate_graph.specs.Circuit.{Circuit, net_of}
 use Rattle.refutation.specs.Branches.{AreAccepted}
 use Rattle.refutation.specs.declared.items.Item.{Item}
 use Rattle.recursive_learning.specs.Serving.{IsServing}
-use Rattle.wire_edit.proofs.Public.{applies_changes, constant_cases, fix_applies, gate_is, junction_gate, next_applies, removal_pins, room_steps, tidying_removes, wires_grow}
+use Rattle.wire_edit.proofs.Public.{fix_applies, gate_is, junction_gate, room_steps}
 use Rattle.wire_edit.specs.declared.steps.Step.{Step}
-use Rattle.wire_edit.specs.declared.steps.Step.TheVariants.{Add, Fix, NewNot, Const, Same, NoPins, OnePin, Twice, Twin, Dead}
+use Rattle.wire_edit.specs.declared.steps.Step.TheVariants.{Add, Fix, NewNot}
 use Rattle.wire_edit.specs.declared.refusal.EditRefusal.TheVariants.{Full}
 use Rattle.wire_edit.specs.declared.room.Room.{Room}
-use Rattle.wire_edit.specs.Changes.{Change, new_not}
+use Rattle.wire_edit.specs.Changes.{new_not}
 use Rattle.wire_edit.specs.Edited.{edit_of}
 use Rattle.wire_edit.specs.Inner.Changes.{nodes_added}
-use Rattle.wire_edit.specs.Tests.{constant_at, control_of, family_of, is_xor}
-use Rattle.wire_edit.specs.Steps.{Applies, stepped, change_of, other_driver, same_change}
+use Rattle.wire_edit.specs.Tests.{control_of}
+use Rattle.wire_edit.specs.Steps.{Applies, stepped, change_of}
 use Rattle.wire_edit.specs.Refusals.{fault_of, has_room, live_count, ceiling, or_else, room_after, unless, IsAnswer}
-use Rattle.wire_edit.specs.Removals.{HasFreePin, IsRemoval}
+use Rattle.wire_edit.specs.Removals.{HasFreePin}
 use Rattle.wire_edit.specs.Sizes.{AddedIsLast}
-use Rattle.wire_edit.specs.Laws.{AnswersApply, IsTidying}
-use Rattle.wire_edit.specs.Tried.{Tried, Tidies}
-use Rattle.wire_edit.specs.Work.{work, RoomForAdding, RoomForFixes, RoomForTidying}
+use Rattle.wire_edit.specs.Laws.{AnswersApply}
+use Rattle.wire_edit.specs.Tried.{Tried}
+use Rattle.wire_edit.specs.Work.{work, RoomForAdding, RoomForFixes}
 use Rattle.journal_text.specs.declared.record.Record.{Record}
 use Rattle.journal_text.specs.declared.record.Record.TheVariants as record_of
-use Rattle.journal_text.specs.Accepted.{IsJustified, MayGrow, IsAcceptedStep}
+use Rattle.journal_text.specs.Accepted.{IsAcceptedStep}
 use Rattle.journal_text.proofs.Public.{accepted_then}
 use Rattle.changed_nodes.specs.Changing.{IsUnlisted}
 use Rattle.merging.specs.Inner.Going.{TouchesOn}

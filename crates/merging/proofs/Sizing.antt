@@ -1,20 +1,9 @@
 -- What steps leave of the number of gates, of the observed places and of the sources, and how large a graph is then.
-use Rattle.std.proofs.Common.{◌≡◌, ℕ, zero, suc, ◌+◌, ◌≤◌, Option, Some, None, List, [], ◌∷◌, length, map, refl, sym, ◌∙◌, ap, arith}
-use Rattle.std.specs.Prelude.{slice_get, slice_set}
-use Rattle.std.specs.List.{sum_by}
-use Rattle.std.proofs.lemmas.List.Sums.{sum_by-cons}
-use Rattle.std.proofs.lemmas.List.{length-map}
-use Rattle.gate_net.specs.Net.{IsKind, Node, Net, drivers_of, node_at, flatten_option, IsWellFormed, gate_count, source_count, wire_count, trimmed}
-use Rattle.gate_net.specs.declared.Kind.TheVariants.{Not, Xor}
-use Rattle.gate_net.specs.Edits.{redriven, redirected, node_redirected, with_node, without}
+use Rattle.std.proofs.Common.{◌≡◌, ◌+◌, ◌≤◌, List, [], ◌∷◌, length, ◌∙◌, ap, arith}
+use Rattle.gate_net.specs.Net.{Net, IsWellFormed, gate_count, source_count, wire_count}
 use Rattle.gate_graph.specs.Circuit.{Circuit, net_of, pins_taken, live_nodes}
 use Rattle.gate_graph.specs.Holds.{held, pins_held, HoldsOn}
-use Rattle.wire_edit.proofs.Public.{total_least, total_map, total_node, total_trimmed}
-use Rattle.wire_edit.specs.declared.steps.Step.{Step}
-use Rattle.wire_edit.specs.Changes.{Change, append, remove, fix, readers, new_not, retire, to_not, changed, with_least_free}
-use Rattle.wire_edit.specs.Inner.Changes.{CanChange, nodes_added}
 use Rattle.wire_edit.specs.Steps.{stepped, change_of}
-use Rattle.wire_edit.specs.Inner.Tests.{gate_weight}
 use Rattle.wire_edit.specs.Tried.{Tried}
 use Rattle.recorded_removals.proofs.Public.{places_stay}
 use Rattle.journal_text.specs.declared.record.Record.{Record}

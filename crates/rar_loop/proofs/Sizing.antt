@@ -1,25 +1,21 @@
 -- What steps leave of the number of gates, of the observed places and of the sources, and how large a graph is then.
-use Rattle.std.proofs.Common.{◌≡◌, ℕ, zero, suc, ◌+◌, ◌≤◌, Bool, true, false, Option, Some, None, List, [], ◌∷◌, length, map, refl, sym, ◌∙◌, ap, arith}
-use Rattle.std.specs.Prelude.{slice_get, slice_set, max, if◌then◌else◌}
+use Rattle.std.proofs.Common.{◌≡◌, ◌+◌, ◌≤◌, Bool, true, false, Option, Some, None, List, [], ◌∷◌, length, ◌∙◌, ap, arith}
+use Rattle.std.specs.Prelude.{max, if◌then◌else◌}
 use Rattle.std.specs.List.{sum_by}
 use Rattle.std.proofs.lemmas.List.Sums.{sum_by-cons}
-use Rattle.std.proofs.lemmas.List.{length-map}
 use Rattle.rm_base.specs.declared.numbers.NodeId.{NodeId}
-use Rattle.gate_net.specs.Net.{IsKind, Node, Net, drivers_of, node_at, flatten_option, IsWellFormed, gate_count, source_count, wire_count, trimmed}
-use Rattle.gate_net.specs.declared.Kind.TheVariants.{Not, Xor}
-use Rattle.gate_net.specs.Edits.{redriven, redirected, node_redirected, with_node, without}
+use Rattle.gate_net.specs.Net.{Node, Net, IsWellFormed, gate_count, source_count, wire_count}
+use Rattle.gate_net.specs.declared.Kind.TheVariants.{Not}
 use Rattle.gate_graph.specs.Circuit.{Circuit, net_of, pins_taken, live_nodes}
 use Rattle.gate_graph.specs.Holds.{held, pins_held, HoldsOn}
-use Rattle.wire_edit.proofs.Public.{length_budget, total_least, total_map, total_node, total_trimmed}
+use Rattle.wire_edit.proofs.Public.{length_budget}
 use Rattle.wire_edit.specs.declared.steps.Step.{Step}
 use Rattle.wire_edit.specs.declared.steps.Step.TheVariants.{Add, NewNot}
-use Rattle.wire_edit.specs.Changes.{Change, append, remove, fix, readers, new_not, retire, to_not, changed, with_least_free}
-use Rattle.wire_edit.specs.Inner.Changes.{CanChange, nodes_added}
+use Rattle.wire_edit.specs.Changes.{with_least_free}
 use Rattle.wire_edit.specs.Steps.{stepped, change_of}
 use Rattle.wire_edit.specs.Refusals.{live_count}
 use Rattle.wire_edit.specs.Order.{node}
 use Rattle.wire_edit.specs.Tests.{live_in}
-use Rattle.wire_edit.specs.Inner.Tests.{gate_weight}
 use Rattle.wire_edit.specs.Tried.{Tried}
 use Rattle.recorded_removals.proofs.Public.{gate_budget, places_stay}
 use Rattle.candidate_wires.specs.declared.candidate.Candidate.{Candidate}
