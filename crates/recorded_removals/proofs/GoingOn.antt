@@ -237,13 +237,13 @@ tidied_step sources law ends t u step log new well made start first epoch is som
     let n : IsTidying step × Applies (net_of t.graph) step = next_applies (net_of t.graph) step made.0 in
     let falls : work (stepped (net_of t.graph) step) < work (net_of t.graph) = ends (net_of t.graph) step well made.0 in (
       goes_one sources t u step [] log new well (record { applies = n.1; grows = tidying_grows (net_of t.graph) step n.0; justified = tidying_justified (net_of t.graph) step n.0 }) (tidying_removes step n.0) (omega (arith, falls)) made.1.0 is start first epoch
-      (λ k le.
-      let r : (0 < t.room.steps) × (work (stepped (net_of t.graph) step) + k ≤ t.room.steps - 1) = law (net_of t.graph) step k t.room.steps well made.0 le in
-      let w : work (net_of u.graph) ≡ work (stepped (net_of t.graph) step) = ap work made.1.0 in
-      let here : work (stepped (net_of t.graph) step) + k ≤ u.room.steps = room_on t.room u.room step (work (stepped (net_of t.graph) step)) k made.1.1.1.1 r.1 in
-      omega (arith, here, w))
-      (tallies_one t u (record_of.Step step []) log new is some (ap (λ (r : Room). r.steps) made.1.1.1.1 ∙ room_steps t.room step) holds)
-      made.1.1.1.1,
+          (λ k le.
+          let r : (0 < t.room.steps) × (work (stepped (net_of t.graph) step) + k ≤ t.room.steps - 1) = law (net_of t.graph) step k t.room.steps well made.0 le in
+          let w : work (net_of u.graph) ≡ work (stepped (net_of t.graph) step) = ap work made.1.0 in
+          let here : work (stepped (net_of t.graph) step) + k ≤ u.room.steps = room_on t.room u.room step (work (stepped (net_of t.graph) step)) k made.1.1.1.1 r.1 in
+          omega (arith, here, w))
+          (tallies_one t u (record_of.Step step []) log new is some (ap (λ (r : Room). r.steps) made.1.1.1.1 ∙ room_steps t.room step) holds)
+          made.1.1.1.1,
       local_one step [] log new n.0 is,
     )
 
