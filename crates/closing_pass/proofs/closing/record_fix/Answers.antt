@@ -10,12 +10,12 @@ use Rattle.rm_base.proofs.Public.{on_err}
 
 pub fix_and_tidy-requires-clause-pin : goal.fix_and_tidy-requires-clause-pin
 fix_and_tidy-requires-clause-pin g c =
-    let formed : IsWellFormed (net_of c.args.trial.now.graph) = subst (λ (v : Circuit). IsWellFormed (net_of v)) c.graph.ensures c.well_formed.ensures.net in
+    let formed : IsWellFormed (net_of c.args.trial.now.graph) = subst (λ (v : Circuit). IsWellFormed (net_of v)) c.graph.ensures c.well_formed-2.ensures.net in
     (c.requires.pin.0, (c.requires.pin.1, tidy_reads_none (net_of c.args.trial.now.graph) formed c.requires.tidy c.args.fault.gate.0 c.args.fault.position c.requires.pin.0 c.requires.pin.1))
 
 pub returns-clause-fewer : goal.returns-clause-fewer
 returns-clause-fewer g c =
-    let formed : IsWellFormed (net_of c.args.trial.now.graph) = subst (λ (v : Circuit). IsWellFormed (net_of v)) c.graph.ensures c.well_formed.ensures.net in
+    let formed : IsWellFormed (net_of c.args.trial.now.graph) = subst (λ (v : Circuit). IsWellFormed (net_of v)) c.graph.ensures c.well_formed-2.ensures.net in
     c.in_ok-fix_and_tidy.ensures.fewer (tidy_reads_none (net_of c.args.trial.now.graph) formed c.requires.tidy)
 
 pub returns-in_err-append_records-clause-stopped : goal.returns-in_err-append_records-clause-stopped
