@@ -9,7 +9,6 @@ use Rattle.gate_net.specs.declared.Kind.TheVariants.{Not}
 use Rattle.gate_graph.specs.Circuit.{Circuit, net_of, pins_taken, live_nodes}
 use Rattle.gate_graph.specs.Holds.{held, pins_held, HoldsOn}
 use Rattle.wire_edit.proofs.Public.{length_budget}
-use Rattle.wire_edit.specs.declared.steps.Step.{Step}
 use Rattle.wire_edit.specs.declared.steps.Step.TheVariants.{Add, NewNot}
 use Rattle.wire_edit.specs.Changes.{with_least_free}
 use Rattle.wire_edit.specs.Steps.{stepped, change_of}
