@@ -47,6 +47,24 @@ fn last_answer(reader: &mut JournalReader) -> Option<JournalFault> {
     }
 }
 
+// Takes the entries of pieces of that length.
+fn take_pieces(
+    alloc: Global,
+    reader: &mut JournalReader,
+    given: &mut Given,
+    text: &[u8],
+    size: usize,
+) -> Result<(), Fail>
+    requires { 0 < size }
+{
+    for piece in text.chunks(size) {
+        reader.push(piece)?;
+        take_entries(alloc, reader, given)?;
+    }
+    given.fault = last_answer(reader);
+    Ok(())
+}
+
 fn read_by(alloc: Global, text: &[u8], size: usize) -> Result<Given, Fail>
     requires { 0 < size }
 {
@@ -56,11 +74,7 @@ fn read_by(alloc: Global, text: &[u8], size: usize) -> Result<Given, Fail>
         count: 0,
         fault: None,
     };
-    for piece in text.chunks(size) {
-        reader.push(piece)?;
-        take_entries(alloc, &mut reader, &mut given)?;
-    }
-    given.fault = last_answer(&mut reader);
+    take_pieces(alloc, &mut reader, &mut given, text, size)?;
     Ok(given)
 }
 

@@ -83,10 +83,8 @@ pub fn draw_net(alloc: Global, seed: u64) -> Result<DrawnNet, Fail>
     })
 }
 
-// The words of the observed nodes, by simulation.
-fn observed_words(alloc: Global, graph: &Graph) -> Result<Vec<u64>, Fail> {
-    let mut found = Vec::new(alloc);
-    let mut lanes = Lanes::new(alloc, graph)?;
+// Adds the words of the observed nodes, by simulation.
+fn push_observed(graph: &Graph, lanes: &mut Lanes, found: &mut Vec<u64>) -> Result<(), Fail> {
     if graph.source_count() != 6 {
         return Err("other sources".into());
     }
@@ -94,6 +92,13 @@ fn observed_words(alloc: Global, graph: &Graph) -> Result<Vec<u64>, Fail> {
     for node in graph.observed_points() {
         found.push(lanes.value(node))?;
     }
+    Ok(())
+}
+
+fn observed_words(alloc: Global, graph: &Graph) -> Result<Vec<u64>, Fail> {
+    let mut found = Vec::new(alloc);
+    let mut lanes = Lanes::new(alloc, graph)?;
+    push_observed(graph, &mut lanes, &mut found)?;
     Ok(found)
 }
 

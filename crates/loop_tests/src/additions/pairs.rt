@@ -155,6 +155,17 @@ fn pays(alloc: Global, graph: &Graph, pair: &Pair) -> Result<bool, Fail>
     }
 }
 
+// Adds the pairs of a target and its candidates.
+fn push_each(found: &[Candidate], fault: Fault, pairs: &mut Vec<Pair>) -> Result<(), Fail> {
+    for candidate in found {
+        pairs.push(Pair {
+            fault,
+            candidate: *candidate,
+        })?;
+    }
+    Ok(())
+}
+
 // Adds the pairs of a target.
 fn push_pairs(
     alloc: Global,
@@ -171,13 +182,7 @@ fn push_pairs(
         return Ok(());
     };
     let found = candidates(alloc, &question, &facts)?;
-    for candidate in found.as_slice() {
-        pairs.push(Pair {
-            fault,
-            candidate: *candidate,
-        })?;
-    }
-    Ok(())
+    push_each(found.as_slice(), fault, pairs)
 }
 
 fn pairs_of(alloc: Global, graph: &Graph) -> Result<Vec<Pair>, Fail> {

@@ -29,6 +29,27 @@ fn sum<'a>(form: Form, drivers: &'a [u32]) -> Gate<'a> {
     }
 }
 
+// Adds so many terms of the source 2 and a source of their own.
+fn add_terms(net: &mut NetBuilder, terms: &mut Vec<u32>, count: u32, form: Form) -> Result<(), Fail>
+    requires { count ≤ 100 }
+{
+    for number in 0..count {
+        let gate = net.add(term(form, &[2, 3 + number]))?;
+        terms.push(gate.0)?;
+    }
+    Ok(())
+}
+
+// Adds their sum, and a gate of it and of a last source.
+fn add_sum(net: &mut NetBuilder, terms: &[u32], count: u32, form: Form) -> Result<(), Fail>
+    requires { count ≤ 100 }
+{
+    let all = net.add(sum(form, terms))?;
+    let last = net.add(term(form, &[all.0, count + 3]))?;
+    net.observe(last.0)?;
+    Ok(())
+}
+
 // So many terms of the source 2 and a source of their own, their sum, and a gate of the sum and of a last source. With
 // Ands as terms and an Or as sum this is (a b1 + a b2 + ..) d.
 fn wide(alloc: Global, count: u32, form: Form) -> Result<Graph, Fail>
@@ -39,13 +60,8 @@ fn wide(alloc: Global, count: u32, form: Form) -> Result<Graph, Fail>
     }
     let mut net = NetBuilder::new(alloc, count + 2)?;
     let mut terms = Vec::new(alloc);
-    for number in 0..count {
-        let gate = net.add(term(form, &[2, 3 + number]))?;
-        terms.push(gate.0)?;
-    }
-    let all = net.add(sum(form, terms.as_slice()))?;
-    let last = net.add(term(form, &[all.0, count + 3]))?;
-    net.observe(last.0)?;
+    add_terms(&mut net, &mut terms, count, form)?;
+    add_sum(&mut net, terms.as_slice(), count, form)?;
     Ok(net.finish())
 }
 

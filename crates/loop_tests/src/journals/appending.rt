@@ -30,14 +30,12 @@ fn append(alloc: Global, shelf: &mut MemoryShelf, entry: &Entry) -> Result<Resul
     })
 }
 
-// Adds the lines of the entries of a text up to the first call that fails, and says how many were whole.
-fn copy_entries(
+// Adds the lines of the entries that a reader gives up to the first call that fails, and says how many were whole.
+fn copy_given(
     alloc: Global,
-    text: &str,
+    reader: &mut JournalReader,
     shelf: &mut MemoryShelf,
 ) -> Result<(u64, Option<Stop>), Fail> {
-    let mut reader = JournalReader::new(alloc);
-    reader.push(text.as_bytes())?;
     let mut count = 0u64;
     for _ in 0..u64::MAX {
         let Some(entry) = reader.next()? else {
@@ -49,6 +47,17 @@ fn copy_entries(
         count = count.saturating_add(1);
     }
     Ok((count, None))
+}
+
+// Those of a text.
+fn copy_entries(
+    alloc: Global,
+    text: &str,
+    shelf: &mut MemoryShelf,
+) -> Result<(u64, Option<Stop>), Fail> {
+    let mut reader = JournalReader::new(alloc);
+    reader.push(text.as_bytes())?;
+    copy_given(alloc, &mut reader, shelf)
 }
 
 fn shelf(alloc: Global, failing: u64) -> Result<MemoryShelf, Fail> {

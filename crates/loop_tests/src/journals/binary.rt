@@ -41,6 +41,23 @@ fn last_answer(reader: &mut BinaryReader) -> Option<BinaryFault> {
     }
 }
 
+// Takes the entries of pieces of that length.
+fn take_pieces(
+    reader: &mut BinaryReader,
+    given: &mut Given,
+    bytes: &[u8],
+    size: usize,
+) -> Result<(), Fail>
+    requires { 0 < size }
+{
+    for piece in bytes.chunks(size) {
+        reader.push(piece)?;
+        take_entries(reader, given)?;
+    }
+    given.fault = last_answer(reader);
+    Ok(())
+}
+
 fn read_by(alloc: Global, bytes: &[u8], size: usize) -> Result<Given, Fail>
     requires { 0 < size }
 {
@@ -50,11 +67,7 @@ fn read_by(alloc: Global, bytes: &[u8], size: usize) -> Result<Given, Fail>
         records: Vec::new(alloc),
         fault: None,
     };
-    for piece in bytes.chunks(size) {
-        reader.push(piece)?;
-        take_entries(&mut reader, &mut given)?;
-    }
-    given.fault = last_answer(&mut reader);
+    take_pieces(&mut reader, &mut given, bytes, size)?;
     Ok(given)
 }
 
