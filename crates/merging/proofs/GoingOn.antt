@@ -23,9 +23,8 @@ use Rattle.wire_edit.specs.declared.refusal.EditRefusal.TheVariants.{Full}
 use Rattle.wire_edit.specs.declared.room.Room.{Room}
 use Rattle.wire_edit.specs.Changes.{new_not}
 use Rattle.wire_edit.specs.Edited.{edit_of}
-use Rattle.wire_edit.specs.Inner.Changes.{nodes_added}
 use Rattle.wire_edit.specs.Tests.{control_of}
-use Rattle.wire_edit.specs.Steps.{Applies, stepped, change_of}
+use Rattle.wire_edit.specs.Steps.{Applies, stepped}
 use Rattle.wire_edit.specs.Refusals.{fault_of, has_room, live_count, ceiling, or_else, room_after, unless, IsAnswer}
 use Rattle.wire_edit.specs.Removals.{HasFreePin}
 use Rattle.wire_edit.specs.Sizes.{AddedIsLast}
@@ -41,7 +40,7 @@ use Rattle.merging.specs.Inner.Going.{TouchesOn}
 use Rattle.merging.specs.Inner.Going.{Follows, Goes, Logs, Stays}
 use Rattle.merging.specs.declared.space.Space.{Space}
 use Rattle.changed_nodes.proofs.Public.{unlisted_append}
-use Rattle.recorded_removals.proofs.Public.{TurnsXor, gate_budget}
+use Rattle.recorded_removals.proofs.Public.{add_gates, fix_gates, new_not_gates}
 use Rattle.recorded_removals.specs.Going.{Goes as IsTidiedBy}
 
 -- LISTS OF RECORDS
@@ -119,17 +118,16 @@ goes_more g e h f t u a b gates extra one = record { logs = one.logs; made = ome
 
 -- a step was made and recorded
 goes_one :
-    (g e : ℕ) (t u : Tried) (step : Step) (tree : List Item) (log new : List Record) → TurnsXor (net_of t.graph) (change_of (net_of t.graph) step) → IsAcceptedStep (net_of t.graph) step tree → net_of u.graph ≡ stepped (net_of t.graph) step → new ≡ log ++ record_of.Step step tree ∷ []
-    → nodes_added (change_of (net_of t.graph) step) ≤ g → 0 < t.room.steps → u.room ≡ room_after t.room step
+    (g e : ℕ) (t u : Tried) (step : Step) (tree : List Item) (log new : List Record) → gate_count (stepped (net_of t.graph) step) ≤ gate_count (net_of t.graph) + g → IsAcceptedStep (net_of t.graph) step tree → net_of u.graph ≡ stepped (net_of t.graph) step → new ≡ log ++ record_of.Step step tree ∷ []
+    → 0 < t.room.steps → u.room ≡ room_after t.room step
     → ((k : ℕ) → work (net_of t.graph) + (e + k) ≤ t.room.steps → work (stepped (net_of t.graph) step) + k ≤ t.room.steps - 1) → Goes g e t u log new
-goes_one g e t u step tree log new turns accepted net is gates some room work_on =
-    let made : gate_count (stepped (net_of t.graph) step) ≤ gate_count (net_of t.graph) + nodes_added (change_of (net_of t.graph) step) = gate_budget (net_of t.graph) (change_of (net_of t.graph) step) turns in
+goes_one g e t u step tree log new made accepted net is some room work_on =
     let gate_e : gate_count (net_of u.graph) ≡ gate_count (stepped (net_of t.graph) step) = ap gate_count net in
     let n : length new ≡ length log + 1 = ap (λ (rs : List Record). length rs) is ∙ length-append log (record_of.Step step tree ∷ []) in
     let steps : u.room.steps ≡ t.room.steps - 1 = ap (λ (r : Room). r.steps) room ∙ room_steps t.room step in
     record {
       logs = logs_one (net_of t.graph) (net_of u.graph) step tree log new accepted net is;
-      made = omega (arith, made, gates, gate_e);
+      made = omega (arith, made, gate_e);
       spent = omega (arith, n, some, steps);
       room = λ k le.
           let r : work (stepped (net_of t.graph) step) + k ≤ t.room.steps - 1 = work_on k le in
@@ -184,7 +182,8 @@ fixed_step law t u fault tree log new well pin accepted answer net room is =
     let step : Step = Fix fault.gate fault.position fault.value in
     let applies : Applies (net_of t.graph) step = fix_applies (net_of t.graph) fault well pin in
     let some : 0 < t.room.steps = ltb-true 0 t.room.steps (answered_room (net_of t.graph) t.room step answer) in
-    goes_one 0 0 t u step tree log new tt (record { applies = applies; grows = tt; justified = accepted }) net is (omega arith) some room
+    let fewer : gate_count (stepped (net_of t.graph) step) ≤ gate_count (net_of t.graph) = fix_gates (net_of t.graph) fault.gate fault.position fault.value in
+    goes_one 0 0 t u step tree log new (omega (arith, fewer)) (record { applies = applies; grows = tt; justified = accepted }) net is some room
     (λ k le. (law (net_of t.graph) step pin.0 k t.room.steps well applies pin.1.0 pin.1.1 (omega (arith, le))).1)
 
 pub fix_changes : (net after : Net) (fault : Fault) → after ≡ stepped net (Fix fault.gate fault.position fault.value) → IsSameBut net after (numbers_of (fault.gate ∷ []))
@@ -217,7 +216,8 @@ added_step law apply_law t u gate node control fault tree log new well controls 
     let grows : wire_count (net_of t.graph) < ceiling = ltb-true (wire_count (net_of t.graph)) ceiling (both_right (nat_lt 0 t.room.pins) _ (both_right (nat_lt 0 t.room.steps) _ there)) in
     let a : AreAccepted (stepped (net_of t.graph) step) fault tree = subst (λ (n : Net). AreAccepted n fault tree) net accepted in
     let b : AreAccepted (stepped (net_of t.graph) step) (last_pin (net_of t.graph) gate.0 (not control)) tree = subst (λ (f : Fault). AreAccepted (stepped (net_of t.graph) step) f tree) pin a in
-    goes_one 0 4 t u step tree log new tt (record { applies = applies; grows = grows; justified = (control, (controls, b)) }) net is (omega arith) some room
+    let fewer : gate_count (stepped (net_of t.graph) step) ≤ gate_count (net_of t.graph) = add_gates (net_of t.graph) gate node in
+    goes_one 0 4 t u step tree log new (omega (arith, fewer)) (record { applies = applies; grows = grows; justified = (control, (controls, b)) }) net is some room
     (λ k le. (law (net_of t.graph) step k t.room.steps well applies tt (omega (arith, le))).1)
 
 -- A NEW NOT
@@ -239,5 +239,5 @@ not_step law apply_law t u node log new well answer net room is =
     let there : has_room (net_of t.graph) t.room step ≡ true = answered_room (net_of t.graph) t.room step answer in
     let some : 0 < t.room.steps = ltb-true 0 t.room.steps (both_left (nat_lt 0 t.room.steps) _ there) in
     let grows : live_count (net_of t.graph) < ceiling = ltb-true (live_count (net_of t.graph)) ceiling (both_right (nat_lt 0 t.room.nodes) _ (both_right (nat_lt 0 t.room.pins) _ (both_right (nat_lt 0 t.room.steps) _ there))) in
-    goes_one 1 5 t u step [] log new tt (record { applies = applies; grows = grows; justified = refl }) net is (omega arith) some room
+    goes_one 1 5 t u step [] log new (new_not_gates (net_of t.graph) node) (record { applies = applies; grows = grows; justified = refl }) net is some room
     (λ k le. (law (net_of t.graph) step k t.room.steps well applies tt (omega (arith, le))).1)

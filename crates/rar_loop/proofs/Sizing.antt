@@ -16,7 +16,7 @@ use Rattle.wire_edit.specs.Refusals.{live_count}
 use Rattle.wire_edit.specs.Order.{node}
 use Rattle.wire_edit.specs.Tests.{live_in}
 use Rattle.wire_edit.specs.Tried.{Tried}
-use Rattle.recorded_removals.proofs.Public.{gate_budget, places_stay}
+use Rattle.recorded_removals.proofs.Public.{add_gates, new_not_gates, places_stay}
 use Rattle.candidate_wires.specs.declared.candidate.Candidate.{Candidate}
 use Rattle.candidate_wires.specs.Gains.{net_for, with_candidate, wire_for}
 use Rattle.journal_text.specs.declared.record.Record.{Record}
@@ -27,12 +27,12 @@ use Rattle.rar_loop.specs.Sizes.{IsSame, IsWithin}
 
 -- GATES
 gates_for : (net : Net) (x : NodeId) (fresh : Bool) → gate_count (if fresh then stepped net (NewNot x) else net) ≤ gate_count net + 1
-gates_for net x true = gate_budget net (change_of net (NewNot x)) tt
+gates_for net x true = new_not_gates net x
 gates_for net x false = omega arith
 
 pub added_gates : (net : Net) (c : Candidate) → gate_count (with_candidate net c) ≤ gate_count net + 1
 added_gates net c =
-    let a : gate_count (with_candidate net c) ≤ gate_count (net_for net c) + 0 = gate_budget (net_for net c) (change_of (net_for net c) (Add c.gate (node (wire_for net c)))) tt in
+    let a : gate_count (with_candidate net c) ≤ gate_count (net_for net c) = add_gates (net_for net c) c.gate (node (wire_for net c)) in
     let b : gate_count (net_for net c) ≤ gate_count net + 1 = gates_for net c.node c.fresh in
     omega (arith, a, b)
 

@@ -1,14 +1,16 @@
 -- What a change leaves of the number of gates and of the observed places.
-use Rattle.std.proofs.Common.{◌≡◌, ℕ, zero, suc, ◌+◌, ◌≤◌, Option, Some, None, List, [], ◌∷◌, length, map, refl, sym, ◌∙◌, ap, arith}
+use Rattle.std.proofs.Common.{◌≡◌, ℕ, zero, suc, ◌+◌, ◌≤◌, Bool, Option, Some, None, List, [], ◌∷◌, length, map, refl, sym, ◌∙◌, ap, arith}
 use Rattle.std.specs.Prelude.{slice_get, slice_set}
 use Rattle.std.specs.List.{sum_by}
 use Rattle.std.proofs.lemmas.List.Sums.{sum_by-cons}
 use Rattle.std.proofs.lemmas.List.{length-map}
+use Rattle.rm_base.specs.declared.numbers.NodeId.{NodeId}
 use Rattle.gate_net.specs.Net.{IsKind, Node, Net, drivers_of, node_at, flatten_option, gate_count, trimmed}
 use Rattle.gate_net.specs.declared.Kind.TheVariants.{Not, Xor}
 use Rattle.gate_net.specs.Edits.{redriven, redirected, node_redirected, with_node, without}
 use Rattle.wire_edit.proofs.Public.{total_least, total_map, total_node, total_trimmed}
 use Rattle.wire_edit.specs.declared.steps.Step.{Step}
+use Rattle.wire_edit.specs.declared.steps.Step.TheVariants.{Add, Fix, NewNot}
 use Rattle.wire_edit.specs.Changes.{Change, append, remove, fix, readers, new_not, retire, to_not, changed, with_least_free}
 use Rattle.wire_edit.specs.Inner.Changes.{CanChange, nodes_added}
 use Rattle.wire_edit.specs.Inner.Tests.{gate_weight}
@@ -45,7 +47,7 @@ driven_gates : (net : Net) (gate : ℕ) (ds : List ℕ) → sum_by gate_weight (
 driven_gates net gate ds = let e : sum_by gate_weight (slice_set net.nodes gate (redriven ds (node_at net gate))) ≡ sum_by gate_weight net.nodes = set_keeps gate_weight ds (redriven_weight ds) net.nodes gate in omega (arith, e)
 
 -- a gate that becomes a Not is an Xor
-abbrev pub TurnsXor : Net → Change → Type 0
+abbrev TurnsXor : Net → Change → Type 0
 TurnsXor net (to_not gate position) = IsKind net gate Xor
 TurnsXor net _ = Unit {0}
 
@@ -58,7 +60,7 @@ turns_xor net (new_not driver) can = tt
 turns_xor net (retire gate) can = tt
 turns_xor net (to_not gate position) can = can.0
 
-pub gate_budget : (net : Net) (change : Change) → TurnsXor net change → gate_count (changed net change) ≤ gate_count net + nodes_added change
+gate_budget : (net : Net) (change : Change) → TurnsXor net change → gate_count (changed net change) ≤ gate_count net + nodes_added change
 gate_budget net (append gate driver) turns = driven_gates net gate _
 gate_budget net (remove gate position) turns = driven_gates net gate _
 gate_budget net (fix gate position value) turns = driven_gates net gate _
@@ -77,6 +79,15 @@ gate_budget net (retire gate) turns =
     let e : sum_by gate_weight (trimmed (slice_set net.nodes gate None)) ≡ sum_by gate_weight (slice_set net.nodes gate None) = total_trimmed gate_weight refl (slice_set net.nodes gate None) in
     let l : sum_by gate_weight (slice_set net.nodes gate None) ≤ sum_by gate_weight net.nodes = gone_less gate_weight refl net.nodes gate in
     omega (arith, e, l)
+
+pub fix_gates : (net : Net) (gate : NodeId) (p : ℕ) (value : Bool) → gate_count (stepped net (Fix gate p value)) ≤ gate_count net
+fix_gates net gate p value = let b : gate_count (stepped net (Fix gate p value)) ≤ gate_count net + 0 = gate_budget net (change_of net (Fix gate p value)) tt in omega (arith, b)
+
+pub add_gates : (net : Net) (gate y : NodeId) → gate_count (stepped net (Add gate y)) ≤ gate_count net
+add_gates net gate y = let b : gate_count (stepped net (Add gate y)) ≤ gate_count net + 0 = gate_budget net (change_of net (Add gate y)) tt in omega (arith, b)
+
+pub new_not_gates : (net : Net) (x : NodeId) → gate_count (stepped net (NewNot x)) ≤ gate_count net + 1
+new_not_gates net x = gate_budget net (change_of net (NewNot x)) tt
 
 -- where a step makes no node there are no more gates
 pub no_gates : (net : Net) (step : Step) → TurnsXor net (change_of net step) → nodes_added (change_of net step) ≡ 0 → gate_count (stepped net step) ≤ gate_count net
