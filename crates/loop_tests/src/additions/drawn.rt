@@ -1,6 +1,7 @@
 // Drawn nets, before and after the loop, for all assignments of their six sources.
 ghost use Rattle.std.specs.Prelude.{◌<◌, ◌≤◌, ◌+◌, IfOk};
-ghost use Rattle.gate_graph.specs.Circuit.{live_nodes, pins_taken};
+ghost use Rattle.fault_sim.specs.LaneStates.{Fits};
+ghost use Rattle.gate_graph.specs.Circuit.{live_nodes, net_of, pins_taken};
 
 use super::{counts_made, optimise_for, settled_after};
 use fault_sim::Lanes;
@@ -84,7 +85,9 @@ pub fn draw_net(alloc: Global, seed: u64) -> Result<DrawnNet, Fail>
 }
 
 // Adds the words of the observed nodes, by simulation.
-fn push_observed(graph: &Graph, lanes: &mut Lanes, found: &mut Vec<u64>) -> Result<(), Fail> {
+fn push_observed(graph: &Graph, lanes: &mut Lanes, found: &mut Vec<u64>) -> Result<(), Fail>
+    requires { Fits lanes.old (net_of graph.now) }
+{
     if graph.source_count() != 6 {
         return Err("other sources".into());
     }
